@@ -1,4 +1,5 @@
--- What follows of a fleet from how it ended: its run, where its archives stand, why it ended, and where it has an answer for each member.
+-- What follows of a fleet from how it ended: its run, where its archives stand, why it ended, and where each member has an
+-- end.
 use Rattle.std.proofs.Common.{◌≡◌, ◌⊎◌, inl, inr, ℕ, suc, ◌+◌, ◌*◌, ◌<◌, ◌≤◌, List, [], ◌∷◌, ◌++◌, length, filter, map, Bool, true, false, ◌||◌, Option, None, Some, Result, Ok, Err, refl, sym, ◌∙◌, ap, append_assoc, arith, subst}
 use Rattle.std.specs.Prelude.{◌≢◌, sum_by}
 use Rattle.std.specs.List.{Contains, list_all, list_any}
@@ -243,7 +244,8 @@ pub record RefusedPlan (ms : List MemberSeen) (e : ErrorSeen) (part : List Event
   pub agrees : Agrees look (answers asked)
   pub refused : planning_error member.build.config member.build.env look member.output ≡ Some e
 
--- its cause: want of memory; a refused plan; a clash; a fault; a missing program; a fault of the pool; or want of turns, of which none is left
+-- its cause: want of memory; a refused plan; a clash; a fault; a missing program; a fault of the pool; or want of turns, of
+-- which none is left
 abbrev pub IsFleetCause : List MemberSeen → List Event → ErrorSeen → Means → Means → Type 0
 IsFleetCause ms part e x y = (e.kind ≡ NoMemory)
     ⊎ (RefusedPlan ms e part
@@ -425,8 +427,9 @@ module _ (s : Site) (n p : ℕ) (patient : s.patience ≡ Some p) (most : Member
         let sum = one_more m ms in
         omega (arith, own, rest, both, sum)
 
-  -- Members of which none is refused and no two write one file, on a host whose programs are there and that doesn't fault, under a pool of one caller that
-  -- doesn't fail, and with the patience for each command: each member has its answer, or memory was wanted.
+  -- Members of which none is refused and no two write one file, on a host whose programs are there and that doesn't fault,
+  -- under a pool of one caller that doesn't fail, and with the patience for each command: each member has its end, or memory
+  -- was wanted.
   pub fleet_complete : (ms : List MemberSeen) (e : ErrorSeen) (part : List Event) (x y : Means)
       → ((m : MemberSeen) (look : Look) → Contains ms m → planning_error m.build.config m.build.env look m.output ≡ None)
       → NoClash (map files_of ms)

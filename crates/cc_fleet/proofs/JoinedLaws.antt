@@ -179,7 +179,7 @@ module _ (t : Terms) (part : List Event) (x y : Means) where
     pub several_greedy : AtTurns (IsBusy t.total t.shows.stop (length (p ∷ q ∷ ps))) part
     several_greedy = all_busy t (p ∷ q ∷ ps) part (list_result answer) x y as_all
 
-    -- the tokens that were taken are those of the starts, and where the start of a command was refused that of this start
+    -- the tokens that were taken are those of the starts, and where a start was refused its own
     pub several_paid : IsPaid (listed_plan t.shows.stop (p ∷ q ∷ ps)) (run_of ran.run.done.kept) answer part (idle_seat t.total x) (idle_seat t.total y)
     several_paid =
         subst (λ (l : List Event). IsPaid (listed_plan t.shows.stop (p ∷ q ∷ ps)) (run_of ran.run.done.kept) answer l (idle_seat t.total x) (idle_seat t.total y)) (since_append ran.log part)

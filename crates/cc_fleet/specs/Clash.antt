@@ -53,7 +53,8 @@ key_of = flat_map (λ component. component ++ 47 ∷ [])
 
 -- these files have the place, and what had another has it still
 pub record PutsAt (old new : PathPlaces) (place : ℕ) (files : List (List ℕ)) : Type 0 where
-  pub kept : (text : List ℕ) (other : ℕ) → (other ≡ place → ⊥) → place_at old text ≡ Some other → place_at new text ≡ Some other
+  pub kept : (text : List ℕ) (other : ℕ) → (other ≡ place → ⊥) → place_at old text ≡ Some other
+      → place_at new text ≡ Some other
   pub there : (file : List ℕ) → Contains files file → place_at new (key_of (path_components file)) ≡ Some place
 
 -- each file of the first members has the place of its member

@@ -77,12 +77,14 @@ clash_error first second = record {
 
 -- two members write one file, or memory was wanted
 abbrev pub IsClash : List MemberSeen → ErrorSeen → Type 0
-IsClash ms e = (e ≡ no_memory) ⊎ ((pair : ℕ × ℕ) × (IsFirstClash (map files_of ms) pair × (e ≡ clash_error pair.0 pair.1)))
+IsClash ms e = (e ≡ no_memory)
+    ⊎ ((pair : ℕ × ℕ) × (IsFirstClash (map files_of ms) pair × (e ≡ clash_error pair.0 pair.1)))
 
 -- ---- plans
 
 -- the call that plans a member answered so, and this is its part; the host listens, or it doesn't
-pub record IsPlanned (s : Site) (m : MemberSeen) (answer : Result CompilePlan ErrorSeen) (part : List Event) : Type 0 where
+pub record IsPlanned (s : Site) (m : MemberSeen) (answer : Result CompilePlan ErrorSeen) (part : List Event)
+    : Type 0 where
   pub listens : Bool
   pub asked : AsksByRun s.steady s.world m.build part
   pub ends : Holds (answers part) (λ look. PlanningEnds m.build listens m.output answer look part)
@@ -143,21 +145,24 @@ PlansTo s ms (Err e) part = PlansUntil s ms e part
 -- ---- libraries
 
 -- the link lines come where the library was written
-abbrev pub LinksBehind : Site → Bool → MemberSeen → Result (List ℕ) ErrorSeen → Result (Unit {0}) ErrorSeen → List Event → Type 0
+abbrev pub LinksBehind : Site → Bool → MemberSeen → Result (List ℕ) ErrorSeen → Result (Unit {0}) ErrorSeen
+    → List Event → Type 0
 LinksBehind s listens m (Err e) answer part = (answer ≡ Err e) × (part ≡ [])
 LinksBehind s listens m (Ok library) answer part = AsksByRun s.steady s.world m.build part
     × Holds (answers part) (λ look. DirectivesEnd m.build listens library answer look part)
 
--- With so many turns the library of a member was written from the objects of its sources and the added ones, and then its link lines were printed; or one
--- of the two was refused. Each asks its own questions.
-pub record Segment (s : Site) (m : MemberSeen) (answer : Result (Unit {0}) ErrorSeen) (part : List Event) (given : ℕ) : Type 0 where
+-- With so many turns the library of a member was written from the objects of its sources and the added ones, and then
+-- its link lines were printed; or one of the two was refused. Each asks its own questions.
+pub record Segment (s : Site) (m : MemberSeen) (answer : Result (Unit {0}) ErrorSeen) (part : List Event) (given : ℕ)
+    : Type 0 where
   pub listens : Bool
   pub made : List Event
   pub linked : List Event
   pub cut : part ≡ made ++ linked
   pub written : Result (List ℕ) ErrorSeen
   pub made_asks : AsksByRun s.steady s.world (with_objects m.build (objects_at m)) made
-  pub creates : Holds (answers made) (λ look. Creates (with_objects m.build (objects_at m)) listens s.patience given m.output written look made)
+  pub creates : Holds (answers made)
+      (λ look. Creates (with_objects m.build (objects_at m)) listens s.patience given m.output written look made)
   pub links : LinksBehind s listens m written answer linked
 
 -- want of turns and want of memory end the whole call
@@ -172,11 +177,14 @@ EndsBy (Ok done) answer = answer ≡ Ok Built
 EndsBy (Err e) (Ok end) = (end ≡ Refused e) × (ends_call e.kind ≡ false)
 EndsBy (Err e) (Err error) = (error ≡ e) × (ends_call e.kind ≡ true)
 
--- What became of a member by its library, with so many turns given and left: it is built, or refused; or the refusal ended the call.
+-- What became of a member by its library, with so many turns given and left: it is built, or refused; or the refusal
+-- ended the call.
 abbrev pub EndsBuilt : Site → MemberSeen → Result FleetEnd ErrorSeen → List Event → ℕ → ℕ → Type 0
 EndsBuilt s m (Ok Built) part given left = Segment s m (Ok tt) part given × (left + turns part ≡ given)
-EndsBuilt s m (Ok (Refused e)) part given left = Segment s m (Err e) part given × (ends_call e.kind ≡ false) × (left + turns part ≡ given)
-EndsBuilt s m (Err e) part given left = Segment s m (Err e) part given × (ends_call e.kind ≡ true) × (left + turns part ≡ given)
+EndsBuilt s m (Ok (Refused e)) part given left =
+    Segment s m (Err e) part given × (ends_call e.kind ≡ false) × (left + turns part ≡ given)
+EndsBuilt s m (Err e) part given left =
+    Segment s m (Err e) part given × (ends_call e.kind ≡ true) × (left + turns part ≡ given)
 
 -- of one with a failed command it is that one's error, for whose texts memory may be wanted
 abbrev pub EndsFailed : List Planned → Failure → Result FleetEnd ErrorSeen → Type 0
@@ -185,12 +193,15 @@ EndsFailed cmds failure (Ok (Refused e)) = e ≡ run_error cmds (Failed failure.
 EndsFailed cmds failure (Err e) = e ≡ no_memory
 
 -- of a member with a failed command no library is written
-abbrev pub EndsMember : Site → List Planned → MemberSeen → Option Failure → Result FleetEnd ErrorSeen → List Event → ℕ → ℕ → Type 0
-EndsMember s cmds m (Some failure) answer part given left = EndsFailed cmds failure answer × (part ≡ []) × (left ≡ given)
+abbrev pub EndsMember : Site → List Planned → MemberSeen → Option Failure → Result FleetEnd ErrorSeen
+    → List Event → ℕ → ℕ → Type 0
+EndsMember s cmds m (Some failure) answer part given left =
+    EndsFailed cmds failure answer × (part ≡ []) × (left ≡ given)
 EndsMember s cmds m None answer part given left = EndsBuilt s m answer part given left
 
 -- each member has its end, one after another; the first of them has that place
-abbrev pub EndsEach : Site → List Planned → (ℕ → Option Failure) → ℕ → List MemberSeen → List FleetEnd → List Event → ℕ → ℕ → Type 0
+abbrev pub EndsEach : Site → List Planned → (ℕ → Option Failure) → ℕ → List MemberSeen → List FleetEnd
+    → List Event → ℕ → ℕ → Type 0
 EndsEach s cmds failure place [] [] part given left = (part ≡ []) × (left ≡ given)
 EndsEach s cmds failure place (m ∷ ms) (end ∷ ends) part given left = (front rest : List Event) × (mid : ℕ)
     × ((part ≡ front ++ rest) × EndsMember s cmds m (failure place) (Ok end) front given mid
@@ -198,14 +209,17 @@ EndsEach s cmds failure place (m ∷ ms) (end ∷ ends) part given left = (front
 EndsEach s cmds failure place _ _ part given left = ⊥
 
 -- the first members have their ends, and then the next one ended the call, or memory was wanted
-abbrev pub EndsUntil : Site → List Planned → (ℕ → Option Failure) → ℕ → List MemberSeen → ErrorSeen → List Event → ℕ → ℕ → Type 0
+abbrev pub EndsUntil : Site → List Planned → (ℕ → Option Failure) → ℕ → List MemberSeen → ErrorSeen
+    → List Event → ℕ → ℕ → Type 0
 EndsUntil s cmds failure place [] e part given left = (e ≡ no_memory) × (part ≡ []) × (left ≡ given)
 EndsUntil s cmds failure place (m ∷ ms) e part given left = ((e ≡ no_memory) × (part ≡ []) × (left ≡ given))
     ⊎ (EndsMember s cmds m (failure place) (Err e) part given left
     ⊎ ((end : FleetEnd) × (front rest : List Event) × (mid : ℕ) × ((part ≡ front ++ rest)
-    × EndsMember s cmds m (failure place) (Ok end) front given mid × EndsUntil s cmds failure (suc place) ms e rest mid left)))
+    × EndsMember s cmds m (failure place) (Ok end) front given mid
+    × EndsUntil s cmds failure (suc place) ms e rest mid left)))
 
-abbrev pub EndsTo : Site → List Planned → (ℕ → Option Failure) → List MemberSeen → Result (List FleetEnd) ErrorSeen → List Event → ℕ → ℕ → Type 0
+abbrev pub EndsTo : Site → List Planned → (ℕ → Option Failure) → List MemberSeen → Result (List FleetEnd) ErrorSeen
+    → List Event → ℕ → ℕ → Type 0
 EndsTo s cmds failure ms (Ok ends) part given left = EndsEach s cmds failure 0 ms ends part given left
 EndsTo s cmds failure ms (Err e) part given left = EndsUntil s cmds failure 0 ms e part given left
 
@@ -224,10 +238,11 @@ pub record Prepared (s : Site) (ms : List MemberSeen) (plans : List CompilePlan)
   pub planned : PlansEach s ms plans part
   pub apart : NoClash (map files_of ms)
 
--- Behind the plans the commands of all members were run to their ends as one list, each under a token of the one pool and none stopped by the failure of
--- another. Then came the ends of the members, in order: the library was written and linked of each of which no command failed.
-pub record Finished (s : Site) (total : Option ℕ) (ms : List MemberSeen) (answer : Result (List FleetEnd) ErrorSeen) (part : List Event) (x y : Means)
-    : Type 0 where
+-- Behind the plans the commands of all members were run to their ends as one list, each under a token of the one pool
+-- and none stopped by the failure of another. Then came the ends of the members, in order: the library was written and
+-- linked of each of which no command failed.
+pub record Finished (s : Site) (total : Option ℕ) (ms : List MemberSeen) (answer : Result (List FleetEnd) ErrorSeen)
+    (part : List Event) (x y : Means) : Type 0 where
   pub planning : List Event
   pub running : List Event
   pub segments : List Event
@@ -248,7 +263,8 @@ pub record Clashes (s : Site) (ms : List MemberSeen) (e : ErrorSeen) (part : Lis
   pub same : y ≡ x
 
 -- the run of the commands was refused, but not by a failed one
-pub record RunStops (s : Site) (total : Option ℕ) (ms : List MemberSeen) (e : ErrorSeen) (part : List Event) (x y : Means) : Type 0 where
+pub record RunStops (s : Site) (total : Option ℕ) (ms : List MemberSeen) (e : ErrorSeen) (part : List Event)
+    (x y : Means) : Type 0 where
   pub planning : List Event
   pub running : List Event
   pub cut : part ≡ planning ++ running
@@ -258,18 +274,22 @@ pub record RunStops (s : Site) (total : Option ℕ) (ms : List MemberSeen) (e : 
   pub ran : RanJoined (fleet_terms s total plans) (joined plans) running answer x y
   pub cause : StopsRun (joined plans) answer e
 
--- Ok: each member has its end. Else a plan was refused; or two members write one file; or the run of the commands was refused; or a library ended the call.
-abbrev pub Fleet : Site → Option ℕ → List MemberSeen → Result (List FleetEnd) ErrorSeen → List Event → Means → Means → Type 0
+-- Ok: each member has its end. Else a plan was refused; or two members write one file; or the run of the commands was
+-- refused; or a library ended the call.
+abbrev pub Fleet : Site → Option ℕ → List MemberSeen → Result (List FleetEnd) ErrorSeen → List Event → Means → Means
+    → Type 0
 Fleet s total ms (Ok ends) part x y = Finished s total ms (Ok ends) part x y
 Fleet s total ms (Err e) part x y = (PlansUntil s ms e part × (y ≡ x))
     ⊎ (Clashes s ms e part x y ⊎ (RunStops s total ms e part x y ⊎ Finished s total ms (Err e) part x y))
 
 -- the same of a call in this course
-abbrev pub IsFleet : Bool → (Question → Outcome) → List MemberSeen → Result (List FleetEnd) ErrorSeen → List Event → Course → Type 0
+abbrev pub IsFleet : Bool → (Question → Outcome) → List MemberSeen → Result (List FleetEnd) ErrorSeen → List Event
+    → Course → Type 0
 IsFleet steady world ms answer part c = Fleet (site steady world c.patience) c.total ms answer part c.before c.after
 
 -- the same of a call that is given so many turns, and leaves some of them
-abbrev pub OnTurns : {X S : Type 0} → (X → List Event) → (X → Option ℕ) → (S → Option ℕ) → (S → ℕ) → (S → ℕ) → (S → ℕ) → ℕ → X → X → S → S
+abbrev pub OnTurns : {X S : Type 0} → (X → List Event) → (X → Option ℕ) → (S → Option ℕ) → (S → ℕ) → (S → ℕ)
+    → (S → ℕ) → ℕ → X → X → S → S
     → (List Event → Course → Type 0) → Type 0
 OnTurns log patience total faults taken load given host host' seat seat' fact =
     (left : ℕ) × OnCourse log patience total faults taken load given left host host' seat seat' fact

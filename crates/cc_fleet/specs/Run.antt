@@ -22,14 +22,14 @@ use Rattle.cc_fleet.specs.Failures.{Failure, failure_of}
 use Rattle.cc_fleet.specs.declared.joined.Joined.{Joined}
 
 -- several commands were run beside each other, as a list, and these are the marks of what began and ended
-pub record RanSeveral (t : Terms) (ps : List Planned) (part : List Event) (answer : Result (List Mark) RunError) (x y : Means)
-    : Type 0 where
+pub record RanSeveral (t : Terms) (ps : List Planned) (part : List Event) (answer : Result (List Mark) RunError)
+    (x y : Means) : Type 0 where
   pub log : List Event
   pub before : ℕ
   pub behind : ℕ
   pub least : IfSome t.patience (λ most. 1 ≤ most)
-  pub run : RanAll (beside_rules t ps) t.total (begins t log (idle_seat t.total x) (turns_at x before)) answer (log ++ part) t.patience
-      (idle_seat t.total y) (turns_at y behind)
+  pub run : RanAll (beside_rules t ps) t.total (begins t log (idle_seat t.total x) (turns_at x before)) answer
+      (log ++ part) t.patience (idle_seat t.total y) (turns_at y behind)
   pub lines : IsPrinted (beside_rules t ps) nothing_kept answer part
 
 -- of one that is run alone it only counts whether it failed
@@ -41,7 +41,8 @@ marks_of (Err error) = Err error
 -- commands were run: several beside each other, one alone, and without any nothing is done
 abbrev pub RanJoined : Terms → List Planned → List Event → Result (List Mark) RunError → Means → Means → Type 0
 RanJoined t [] part answer x y = (part ≡ []) × (answer ≡ Ok []) × (y ≡ x)
-RanJoined t (p ∷ []) part answer x y = (own : Result (Unit {0}) RunError) × (RanOne t p part own x y × (answer ≡ marks_of own))
+RanJoined t (p ∷ []) part answer x y =
+    (own : Result (Unit {0}) RunError) × (RanOne t p part own x y × (answer ≡ marks_of own))
 RanJoined t (p ∷ q ∷ ps) part answer x y = RanSeveral t (p ∷ q ∷ ps) part answer x y
 
 -- ---- what is answered
@@ -53,8 +54,8 @@ pub record AreFailures (all : Joined) (marks : List Mark) (failures : List (Opti
       → slice_index_or failures member None ≡ failure_of all.owners.items marks member
 
 -- the commands were run to their ends, and these are the failures
-pub record RanTo (t : Terms) (cmds : List Planned) (all : Joined) (failures : List (Option Failure)) (part : List Event) (x y : Means)
-    : Type 0 where
+pub record RanTo (t : Terms) (cmds : List Planned) (all : Joined) (failures : List (Option Failure))
+    (part : List Event) (x y : Means) : Type 0 where
   pub marks : List Mark
   pub ran : RanJoined t cmds part (Ok marks) x y
   pub are : AreFailures all marks failures
@@ -74,26 +75,31 @@ abbrev pub FailuresAfter : Joined → Result (List Mark) RunError → Result (Ve
 FailuresAfter all (Ok marks) answer = FailuresBy all marks answer
 FailuresAfter all (Err e) answer = answer ≡ Err e
 
-abbrev pub RunsTo : Terms → List Planned → Joined → Result (Vec (Option Failure)) RunError → List Event → Means → Means → Type 0
+abbrev pub RunsTo : Terms → List Planned → Joined → Result (Vec (Option Failure)) RunError → List Event → Means
+    → Means → Type 0
 RunsTo t cmds all (Ok failures) part x y = RanTo t cmds all failures.items part x y
-RunsTo t cmds all (Err e) part x y = (answer : Result (List Mark) RunError) × (RanJoined t cmds part answer x y × IsRefusal e answer)
+RunsTo t cmds all (Err e) part x y =
+    (answer : Result (List Mark) RunError) × (RanJoined t cmds part answer x y × IsRefusal e answer)
 
 -- this command was run alone, without a token, whatever the pool and its seat
 abbrev pub RunsAlone : {X : Type 0} → (X → List Event) → (X → Option ℕ) → ℕ → ℕ → X → X → Shows → Planned → Joined
     → Result (Vec (Option Failure)) RunError → Type 0
 RunsAlone log patience given left host host' shows cmd all answer = (total : Option ℕ) (faults taken load : ℕ)
-    → RunsTo (terms shows total (patience host)) (cmd ∷ []) all answer (part log host host') (means given faults taken load) (means left faults taken load)
+    → RunsTo (terms shows total (patience host)) (cmd ∷ []) all answer (part log host host')
+    (means given faults taken load) (means left faults taken load)
 
 -- several were run in this course
 abbrev pub RunsBeside : Shows → Joined → Result (Vec (Option Failure)) RunError → List Event → Course → Type 0
-RunsBeside shows all (Ok failures) part c = (marks : List Mark) × (RanSeveral (terms shows c.total c.patience) all.commands.items part (Ok marks) c.before c.after
+RunsBeside shows all (Ok failures) part c = (marks : List Mark)
+    × (RanSeveral (terms shows c.total c.patience) all.commands.items part (Ok marks) c.before c.after
     × AreFailures all marks failures.items)
 RunsBeside shows all (Err e) part c = (answer : Result (List Mark) RunError)
     × (RanSeveral (terms shows c.total c.patience) all.commands.items part answer c.before c.after × IsRefusal e answer)
 
 -- so many as there are
 abbrev pub RunsAll : Shows → Joined → Result (Vec (Option Failure)) RunError → List Event → Course → Type 0
-RunsAll shows all answer part c = RunsTo (terms shows c.total c.patience) all.commands.items all answer part c.before c.after
+RunsAll shows all answer part c =
+    RunsTo (terms shows c.total c.patience) all.commands.items all answer part c.before c.after
 
 -- why a run ended the call: it was refused, or memory was wanted behind it
 abbrev pub StopsRun : List Planned → Result (List Mark) RunError → ErrorSeen → Type 0

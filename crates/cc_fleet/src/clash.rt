@@ -109,8 +109,8 @@ fn first_pair(members: &[Words]) -> Option<(usize, usize)>
     None
 }
 
-/// The first two members that write one file, by the place of the one and then of the other, from the files of each. Where no two
-/// do, each file is looked at once.
+/// The first two members that write one file, by the place of the one and then of the other, from the files of each.
+/// Where no two do, each file is looked at once.
 pub fn find_clash(alloc: Global, members: &[Words]) -> Mem<Option<(usize, usize)>>
     ensures { IfOk result (λ clash.
         MatchOption clash (NoClash members.now) (IsFirstClash members.now)) }

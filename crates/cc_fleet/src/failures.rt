@@ -41,8 +41,8 @@ fn note(failures: &mut Vec<Option<Failure>>, owners: &[usize], mark: Mark)
     }
 }
 
-/// For each of so many members the last of its commands that ended with another status than 0, and how. `owners` has the member
-/// of each command.
+/// For each of so many members the last of its commands that ended with another status than 0, and how. `owners` has
+/// the member of each command.
 pub fn last_failures(
     alloc: Global,
     count: usize,

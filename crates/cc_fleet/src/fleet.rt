@@ -14,17 +14,18 @@ use cc_run::Turns;
 use std::alloc::Global;
 use std::sync::Wait;
 
-/// Compiles and archives several builds under one pool, so that none waits for the last source of another. It answers what
-/// became of each member.
+/// Compiles and archives several builds under one pool, so that none waits for the last source of another. It answers
+/// what became of each member.
 ///
-/// Each member is planned, in order. Two that would write one file are refused with InvalidArgument, by the first such pair. Then
-/// the commands of all members are run as one list, as many side by side as there are tokens, with what the first member shows, and
-/// no failure stops another command; `stop_on_failure` of a member isn't used. Then, in order, the library of each member is
-/// written of which no command failed, and its link lines are printed. A member is `Refused` by the command of it that failed last,
-/// or by what its library or its link lines refused, and the others are built all the same.
+/// Each member is planned, in order. Two that would write one file are refused with InvalidArgument, by the first such
+/// pair. Then the commands of all members are run as one list, as many side by side as there are tokens, with what the
+/// first member shows, and no failure stops another command; `stop_on_failure` of a member isn't used. Then, in order,
+/// the library of each member is written of which no command failed, and its link lines are printed. A member is
+/// `Refused` by the command of it that failed last, or by what its library or its link lines refused, and the others
+/// are built all the same.
 ///
-/// Any other refusal ends the call: of a plan, of the run but by a failed command, by want of turns and of memory. At most `turns`
-/// turns are made. The seat holds nothing, before and after. Without a member nothing is done.
+/// Any other refusal ends the call: of a plan, of the run but by a failed command, by want of turns and of memory. At
+/// most `turns` turns are made. The seat holds nothing, before and after. Without a member nothing is done.
 #[tactic(auto, using(cc_host::proofs::Parts::since_append))]
 pub fn run_fleet<W: World, H: Host<W>, J: Jobs>(
     rt: &impl Wait,

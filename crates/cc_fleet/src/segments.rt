@@ -15,7 +15,8 @@ use cc_text::Words;
 use std::alloc::Global;
 use std::sync::Wait;
 
-// What the end of a member goes by: the commands of all members, the paths of its objects, and the command of it that failed last.
+// What the end of a member goes by: the commands of all members, the paths of its objects, and the command of it that
+// failed last.
 #[derive(Clone, Copy)]
 struct Given<'a> {
     commands: &'a [Planned],
@@ -23,7 +24,8 @@ struct Given<'a> {
     failure: Option<Failure>,
 }
 
-// Writes the library of a member, and prints how Cargo links it. Of the turns that are left it takes those that it makes.
+// Writes the library of a member, and prints how Cargo links it. Of the turns that are left it takes those that it
+// makes.
 #[tactic(auto, using(cc_host::proofs::Parts::since_append))]
 fn archive<W: World, H: Host<W>>(
     rt: &impl Wait,
