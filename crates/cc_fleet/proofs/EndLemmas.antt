@@ -10,6 +10,7 @@ use Rattle.cc_host.specs.declared.event.Status.{Status}
 use Rattle.cc_host.specs.declared.question.Outcome.{Outcome}
 use Rattle.cc_host.specs.declared.question.Question.{Question}
 use Rattle.cc_host.specs.declared.event.OutputKind.TheVariants.{Discard}
+use Rattle.cc_plan.specs.Plan.{library_of}
 use Rattle.cc_run.specs.Part.{turns, turns_of}
 use Rattle.cc_run.specs.declared.error.RunError.TheVariants.{Failed}
 use Rattle.cc_run.specs.declared.planned.Planned.{Planned}
@@ -24,7 +25,7 @@ use Rattle.cc_build.specs.Went.{Terms, Means, terms, means}
 use Rattle.cc_build.specs.declared.error.ErrorKind.TheVariants.{NoMemory}
 use Rattle.cc_build.proofs.TurnLaws.{ended_turns}
 use Rattle.cc_fleet.specs.Failures.{Failure}
-use Rattle.cc_fleet.specs.Fleet.{Site, MemberSeen, Segment, EndsBy, EndsBuilt, EndsMember, EndsEach, EndsUntil, objects_at, member_seen, members_seen, site}
+use Rattle.cc_fleet.specs.Fleet.{Site, MemberSeen, Segment, EndsBy, EndsBuilt, EndsMember, EndsEach, EndsUntil, library_at, objects_at, member_seen, members_seen, site}
 use Rattle.cc_fleet.specs.declared.members.FleetEnd.{FleetEnd}
 use Rattle.cc_fleet.specs.declared.members.Member.{Member}
 use Rattle.cc_fleet.proofs.MemberLemmas.{parted, longer, before_it}
@@ -41,6 +42,9 @@ module _ (s : Site) (m : MemberSeen) (listens : Bool) (objects : List (List ℕ)
       subst (λ (o : List (List ℕ)). Holds (answers made) (λ look. Creates (with_objects m.build o) listens s.patience given m.output written look made)) own
       (subst (λ (n : List ℕ). Holds (answers made) (λ look. Creates (with_objects m.build objects) listens s.patience given n written look made)) named creates)
 
+  its_path : (library : List ℕ) → library ≡ library_of (with_objects m.build objects).config m.build.env output → library ≡ library_at m
+  its_path library is = is ∙ ap (λ n. library_of m.build.config m.build.env n) named
+
   pub segment_refused : (e : ErrorSeen) → Holds (answers made) (λ look. Creates {T = List ℕ} (with_objects m.build objects) listens s.patience given output (Err e) look made) → Segment s m (Err e) made given
   segment_refused e creates = record {
     listens = listens;
@@ -48,18 +52,20 @@ module _ (s : Site) (m : MemberSeen) (listens : Bool) (objects : List (List ℕ)
     linked = [];
     cut = sym (append-nil made);
     written = Err e;
+    path = tt;
     made_asks = its_asks;
     creates = its_creates (Err e) creates;
     links = (refl, refl);
   }
 
-  pub segment_linked : (library path : List ℕ) (heard : Bool) (answer : Result (Unit {0}) ErrorSeen) (linked part : List Event) → Holds (answers made) (λ look. Creates (with_objects m.build objects) listens s.patience given output (Ok library) look made) → part ≡ made ++ linked → path ≡ library → heard ≡ listens → AsksByRun s.steady s.world m.build linked → Holds (answers linked) (λ look. DirectivesEnd m.build heard path answer look linked) → Segment s m answer part given
-  segment_linked library path heard answer linked part creates cut at hears asked ends = record {
+  pub segment_linked : (library path : List ℕ) (heard : Bool) (answer : Result (Unit {0}) ErrorSeen) (linked part : List Event) → Holds (answers made) (λ look. Creates (with_objects m.build objects) listens s.patience given output (Ok library) look made) → library ≡ library_of (with_objects m.build objects).config m.build.env output → part ≡ made ++ linked → path ≡ library → heard ≡ listens → AsksByRun s.steady s.world m.build linked → Holds (answers linked) (λ look. DirectivesEnd m.build heard path answer look linked) → Segment s m answer part given
+  segment_linked library path heard answer linked part creates is cut at hears asked ends = record {
     listens = listens;
     made = made;
     linked = linked;
     cut = cut;
     written = Ok library;
+    path = its_path library is;
     made_asks = its_asks;
     creates = its_creates (Ok library) creates;
     links = (

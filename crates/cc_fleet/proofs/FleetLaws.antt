@@ -1,5 +1,6 @@
--- What follows of a fleet from how it ended: its run, where its archives stand, why it ended, and where it has an answer for each member.
-use Rattle.std.proofs.Common.{◌≡◌, ◌⊎◌, inl, inr, ℕ, suc, ◌+◌, ◌*◌, ◌<◌, ◌≤◌, List, [], ◌∷◌, ◌++◌, length, filter, map, Bool, true, false, ◌||◌, Option, None, Some, Result, Ok, Err, refl, sym, ◌∙◌, ap, append_assoc, arith}
+-- What follows of a fleet from how it ended: its run, where its archives stand, why it ended, and where each member has an
+-- end.
+use Rattle.std.proofs.Common.{◌≡◌, ◌⊎◌, inl, inr, ℕ, suc, ◌+◌, ◌*◌, ◌<◌, ◌≤◌, List, [], ◌∷◌, ◌++◌, length, filter, map, Bool, true, false, ◌||◌, Option, None, Some, Result, Ok, Err, refl, sym, ◌∙◌, ap, append_assoc, arith, subst}
 use Rattle.std.specs.Prelude.{◌≢◌, sum_by}
 use Rattle.std.specs.List.{Contains, list_all, list_any}
 use Rattle.std.proofs.lemmas.Bool.{and_parts, and_from, or_parts}
@@ -12,11 +13,11 @@ use Rattle.cc_jobs.specs.Seats.{Rose}
 use Rattle.cc_host.specs.Command.{CommandSeen}
 use Rattle.cc_host.specs.Question.{Look, Agrees, answers}
 use Rattle.cc_host.specs.declared.event.Event.{Event}
-use Rattle.cc_host.specs.declared.event.Event.TheVariants.{Started, Ran, Missing}
+use Rattle.cc_host.specs.declared.event.Event.TheVariants.{Started, Ran, Missing, Fault}
 use Rattle.cc_host.specs.declared.event.Role.{Role}
 use Rattle.cc_host.specs.declared.event.Role.TheVariants.{Compile, Archive, Index}
 use Rattle.cc_run.specs.Marks.{has_failed}
-use Rattle.cc_run.specs.Part.{started, abandoned, missing, missing_of, turns, turns_of}
+use Rattle.cc_run.specs.Part.{started, abandoned, faults, missing, missing_of, turns, turns_of}
 use Rattle.cc_run.specs.Planned.{asked}
 use Rattle.cc_run.specs.declared.error.RunError.{RunError}
 use Rattle.cc_run.specs.declared.mark.Mark.{Mark}
@@ -29,7 +30,7 @@ use Rattle.cc_build.specs.Error.{ErrorSeen, no_memory}
 use Rattle.cc_build.specs.Failed.{HasFault, is_fault}
 use Rattle.cc_build.specs.Order.{is_archive_role, is_archive_event}
 use Rattle.cc_build.specs.Planning.{planning_error, planning_stages}
-use Rattle.cc_build.specs.Promises.{is_compile_role, is_compiling}
+use Rattle.cc_build.specs.Promises.{is_compile_role, is_compiling, FaultsEnd}
 use Rattle.cc_build.specs.Stage.{commands_in}
 use Rattle.cc_build.specs.Way.{Firsts, Writing}
 use Rattle.cc_build.specs.Went.{Terms, Means, means}
@@ -42,14 +43,15 @@ use Rattle.cc_fleet.specs.Fleet.{Site, MemberSeen, IsPlanned, PlansEach, PlansUn
 use Rattle.cc_fleet.specs.Run.{RanJoined, shown_by}
 use Rattle.cc_fleet.specs.declared.members.FleetEnd.{FleetEnd}
 use Rattle.cc_fleet.specs.declared.members.FleetEnd.TheVariants.{Built, Refused}
+use Rattle.cc_build.proofs.FaultLaws.{nothing_faults, then_faults}
 use Rattle.cc_build.proofs.PlanningLaws.{still_planning}
 use Rattle.cc_build.proofs.StopLaws.{or_right}
 use Rattle.cc_build.proofs.TurnLaws.{halted_spent}
 use Rattle.cc_fleet.proofs.CauseLaws.{planning_unspent, run_cause, still_cause}
 use Rattle.cc_fleet.proofs.EndLemmas.{no_terms, no_means}
-use Rattle.cc_fleet.proofs.JoinedLaws.{joined_through, joined_first, joined_most, stopped_fewer}
+use Rattle.cc_fleet.proofs.JoinedLaws.{joined_through, joined_first, joined_faults, joined_sound, joined_most, stopped_fewer}
 use Rattle.cc_fleet.proofs.PartLaws.{of_plans, of_refused, plans_still, fleet_turns}
-use Rattle.cc_fleet.proofs.PlannedLaws.{is_compile_command, planned_ends, its_look, its_agrees, plain_planning, planned_untried, plan_compiles, plan_count, segment_spent, segment_most, segment_fewer}
+use Rattle.cc_fleet.proofs.PlannedLaws.{is_compile_command, planned_ends, its_look, its_agrees, plain_planning, planned_untried, planned_faults, plan_compiles, plan_count, plan_sound, segment_spent, segment_most, segment_fewer}
 
 -- ---- the failures of a member
 
@@ -192,6 +194,43 @@ archived_well s cmds of_each marks member m answer segment given left ends some 
     by_failure (Some f) is k = absurd (some k.1)
     by_failure None is k = unfailed_well of_each marks member is
 
+-- ---- faults
+
+no_fault : (part : List Event) → faults part ≡ [] → list_any is_fault part ≡ false
+no_fault [] h = refl
+no_fault (Fault call why ∷ part) h = absurd (cc)
+no_fault (_ ∷ part) h = no_fault part h
+
+both_sound : (a b : List Event) → list_any is_fault a ≡ false → list_any is_fault b ≡ false → list_any is_fault (a ++ b) ≡ false
+both_sound a b p q = list_any-append is_fault a b ∙ either_none (list_any is_fault a) (list_any is_fault b) p q
+
+module _ (s : Site) where
+  plans_sound : (ms : List MemberSeen) (plans : List CompilePlan) (part : List Event) → PlansEach s ms plans part → list_any is_fault part ≡ false
+  plans_sound [] [] part h = ap (list_any is_fault) h
+  plans_sound [] (p ∷ plans) part h = absurd h
+  plans_sound (m ∷ ms) [] part h = absurd h
+  plans_sound (m ∷ ms) (p ∷ plans) part h = ap (list_any is_fault) h.2.0 ∙ both_sound h.0 h.1 (plan_sound s m p h.0 h.2.1) (plans_sound ms plans h.1 h.2.2)
+
+  -- a fault of a call that plans ends the whole call
+  pub refused_faults : (ms : List MemberSeen) (e : ErrorSeen) (part : List Event) → PlansUntil s ms e part → FaultsEnd part
+  refused_faults [] e part h = subst FaultsEnd (sym h.1) nothing_faults
+  refused_faults (m ∷ ms) e part (inl h) = subst FaultsEnd (sym h.1) nothing_faults
+  refused_faults (m ∷ ms) e part (inr (inl h)) = planned_faults s m (Err e) part h
+  refused_faults (m ∷ ms) e part (inr (inr h)) = subst FaultsEnd (sym h.3.0) (then_faults h.1 h.2 (plan_sound s m h.0 h.1 h.3.1) (refused_faults ms e h.2 h.3.2))
+
+  -- so does one of the run: behind it children are abandoned, and nothing else is done
+  pub stopped_faults : (total : Option ℕ) (ms : List MemberSeen) (e : ErrorSeen) (part : List Event) (x y : Means) → RunStops s total ms e part x y → FaultsEnd part
+  stopped_faults total ms e part x y h =
+      subst FaultsEnd (sym h.cut)
+      (then_faults h.planning h.running (plans_sound ms h.plans h.planning h.prepared.planned)
+      (joined_faults (fleet_terms s total h.plans) h.running x y (joined h.plans) h.answer h.ran))
+
+  -- where segments stand no call faulted before them
+  pub fleet_sound : (total : Option ℕ) (ms : List MemberSeen) (answer : Result (List FleetEnd) ErrorSeen) (part : List Event) (x y : Means) (h : Finished s total ms answer part x y) → list_any is_fault (h.planning ++ h.running) ≡ false
+  fleet_sound total ms answer part x y h =
+      both_sound h.planning h.running (plans_sound ms h.plans h.planning h.prepared.planned)
+      (no_fault h.running (joined_sound (fleet_terms s total h.plans) h.running x h.mid (joined h.plans) h.marks h.ran))
+
 -- ---- why it has no answer for each member
 
 -- the plan of a member was refused by the settings, under verdicts that agree with its answers
@@ -205,7 +244,8 @@ pub record RefusedPlan (ms : List MemberSeen) (e : ErrorSeen) (part : List Event
   pub agrees : Agrees look (answers asked)
   pub refused : planning_error member.build.config member.build.env look member.output ≡ Some e
 
--- its cause: want of memory; a refused plan; a clash; a fault; a missing program; a fault of the pool; or want of turns, of which none is left
+-- its cause: want of memory; a refused plan; a clash; a fault; a missing program; a fault of the pool; or want of turns, of
+-- which none is left
 abbrev pub IsFleetCause : List MemberSeen → List Event → ErrorSeen → Means → Means → Type 0
 IsFleetCause ms part e x y = (e.kind ≡ NoMemory)
     ⊎ (RefusedPlan ms e part
@@ -387,8 +427,9 @@ module _ (s : Site) (n p : ℕ) (patient : s.patience ≡ Some p) (most : Member
         let sum = one_more m ms in
         omega (arith, own, rest, both, sum)
 
-  -- Members of which none is refused and no two write one file, on a host whose programs are there and that doesn't fault, under a pool of one caller that
-  -- doesn't fail, and with the patience for each command: each member has its answer, or memory was wanted.
+  -- Members of which none is refused and no two write one file, on a host whose programs are there and that doesn't fault,
+  -- under a pool of one caller that doesn't fail, and with the patience for each command: each member has its end, or memory
+  -- was wanted.
   pub fleet_complete : (ms : List MemberSeen) (e : ErrorSeen) (part : List Event) (x y : Means)
       → ((m : MemberSeen) (look : Look) → Contains ms m → planning_error m.build.config m.build.env look m.output ≡ None)
       → NoClash (map files_of ms)

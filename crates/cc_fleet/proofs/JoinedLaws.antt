@@ -11,7 +11,7 @@ use Rattle.cc_run.specs.Children.{run_of, nothing_kept}
 use Rattle.cc_run.specs.Listed.{listed_plan}
 use Rattle.cc_run.specs.Marks.{last_failure}
 use Rattle.cc_run.specs.Outcome.{by_failure, list_result}
-use Rattle.cc_run.specs.Part.{started, abandoned, turns}
+use Rattle.cc_run.specs.Part.{started, abandoned, faults, turns}
 use Rattle.cc_run.specs.Patience.{Unspent}
 use Rattle.cc_run.specs.Planned.{asked}
 use Rattle.cc_run.specs.Run.{ids}
@@ -142,6 +142,29 @@ module _ (t : Terms) (part : List Event) (x y : Means) where
       said_through (p ∷ q ∷ ps) t.shows.stop (last_failure marks) going
       (said_all t (p ∷ q ∷ ps) part (by_failure (last_failure marks)) x y (several_all t (p ∷ q ∷ ps) part (Ok marks) x y ran))
 
+  -- such a run has no fault
+  failed_sound : (ps : List Planned) (stop : Bool) (f : Option (ℕ × Status)) → Said t.shows stop ps part (by_failure f) → faults part ≡ []
+  failed_sound ps stop None s = s.faults_are
+  failed_sound ps stop (Some f) s = s.faults_are
+
+  lone_sound : (p : Planned) (marks : List Mark) (own : Result (Unit {0}) RunError) → Ok marks ≡ marks_of own → Said t.shows false (p ∷ []) part own → faults part ≡ []
+  lone_sound p marks (Ok done) is s = s.faults_are
+  lone_sound p marks (Err (Failed place status)) is s = s.faults_are
+  lone_sound p marks (Err (ToolNotFound place)) is s = absurd (cc)
+  lone_sound p marks (Err (StartFault place)) is s = absurd (cc)
+  lone_sound p marks (Err WaitFault) is s = absurd (cc)
+  lone_sound p marks (Err (HostFault call why)) is s = absurd (cc)
+  lone_sound p marks (Err JobFault) is s = absurd (cc)
+  lone_sound p marks (Err TurnsSpent) is s = absurd (cc)
+  lone_sound p marks (Err NoMemory) is s = absurd (cc)
+
+  pub joined_sound : (ps : List Planned) (marks : List Mark) → RanJoined t ps part (Ok marks) x y → faults part ≡ []
+  joined_sound [] marks ran = ap faults ran.0
+  joined_sound (p ∷ []) marks ran = lone_sound p marks ran.0 ran.1.1 (said_one t p part ran.0 x y ran.1.0)
+  joined_sound (p ∷ q ∷ ps) marks ran =
+      failed_sound (p ∷ q ∷ ps) t.shows.stop (last_failure marks)
+      (said_all t (p ∷ q ∷ ps) part (by_failure (last_failure marks)) x y (several_all t (p ∷ q ∷ ps) part (Ok marks) x y ran))
+
   -- ---- several commands under the tokens of one pool
 
   module _ (p q : Planned) (ps : List Planned) (answer : Result (List Mark) RunError) (ran : RanSeveral t (p ∷ q ∷ ps) part answer x y) where
@@ -156,7 +179,7 @@ module _ (t : Terms) (part : List Event) (x y : Means) where
     pub several_greedy : AtTurns (IsBusy t.total t.shows.stop (length (p ∷ q ∷ ps))) part
     several_greedy = all_busy t (p ∷ q ∷ ps) part (list_result answer) x y as_all
 
-    -- the tokens that were taken are those of the starts, and where the start of a command was refused that of this start
+    -- the tokens that were taken are those of the starts, and where a start was refused its own
     pub several_paid : IsPaid (listed_plan t.shows.stop (p ∷ q ∷ ps)) (run_of ran.run.done.kept) answer part (idle_seat t.total x) (idle_seat t.total y)
     several_paid =
         subst (λ (l : List Event). IsPaid (listed_plan t.shows.stop (p ∷ q ∷ ps)) (run_of ran.run.done.kept) answer l (idle_seat t.total x) (idle_seat t.total y)) (since_append ran.log part)

@@ -1,6 +1,6 @@
 -- What the plan of one member and the segment of one member leave.
-use Rattle.std.proofs.Common.{◌≡◌, ℕ, ◌+◌, ◌*◌, ◌<◌, ◌≤◌, List, [], ◌∷◌, ◌++◌, length, map, Bool, true, if◌then◌else◌, is_some, Option, Some, Result, Ok, Err, refl, sym, ◌∙◌, ap, subst, arith}
-use Rattle.std.specs.List.{list_all}
+use Rattle.std.proofs.Common.{◌≡◌, ℕ, ◌+◌, ◌*◌, ◌<◌, ◌≤◌, List, [], ◌∷◌, ◌++◌, length, map, Bool, true, if◌then◌else◌, is_some, Option, Some, Result, Ok, Err, refl, sym, ◌∙◌, ap, subst, arith, append-nil, false}
+use Rattle.std.specs.List.{list_all, list_any}
 use Rattle.std.proofs.lemmas.List.{length-map}
 use Rattle.std.proofs.lemmas.List.Sums.{sum_by-append}
 use Rattle.std.proofs.Math.Nat.{mul-le-mul_left}
@@ -23,6 +23,7 @@ use Rattle.cc_build.specs.Attempts.{attempts, to_attempt}
 use Rattle.cc_build.specs.Build.{BuildSeen}
 use Rattle.cc_build.specs.Course.{course_alone}
 use Rattle.cc_build.specs.Error.{ErrorSeen}
+use Rattle.cc_build.specs.Failed.{is_fault}
 use Rattle.cc_build.specs.Intermediates.{source_reads}
 use Rattle.cc_build.specs.Linking.{directive_error, directive_stages}
 use Rattle.cc_build.specs.Planning.{PlanningEnds, planning_error, planning_stages}
@@ -34,14 +35,15 @@ use Rattle.cc_build.specs.Went.{means, Halted, Ends, Partly}
 use Rattle.cc_build.specs.declared.error.ErrorKind.TheVariants.{TurnsSpent as SpendsTurns}
 use Rattle.cc_build.specs.declared.planning.CompilePlan.{CompilePlan}
 use Rattle.cc_build.proofs.AloneLaws.{AreStill}
-use Rattle.cc_build.proofs.ArchivingLaws.{creates_settled}
+use Rattle.cc_build.proofs.ArchivingLaws.{creates_settled, creates_faults}
 use Rattle.cc_build.proofs.ChildLaws.{running_behind}
+use Rattle.cc_build.proofs.FaultLaws.{then_faults}
 use Rattle.cc_build.proofs.OrderLaws.{ended_partly}
 use Rattle.cc_build.proofs.PlanningLaws.{still_planning}
 use Rattle.cc_build.proofs.PromiseLaws.{fault_ends}
 use Rattle.cc_build.proofs.SettledLaws.{partly_settled, partly_first}
 use Rattle.cc_build.proofs.SourceLaws.{opening_notes, planned_count}
-use Rattle.cc_build.proofs.StopLaws.{ArePlain, plain_then, plain_notes, plain_lines, plain_unless, plain_folder}
+use Rattle.cc_build.proofs.StopLaws.{ArePlain, plain_then, plain_notes, plain_lines, plain_unless, plain_folder, went_faultless}
 use Rattle.cc_build.proofs.TurnLaws.{ended_turns, ended_most, halted_bound, halted_spent}
 use Rattle.cc_fleet.specs.Fleet.{Site, MemberSeen, IsPlanned, Segment, LinksBehind, objects_at}
 use Rattle.cc_fleet.proofs.CauseLaws.{creation_unspent, directive_unspent}
@@ -137,6 +139,12 @@ module _ (s : Site) (m : MemberSeen) (plan : CompilePlan) (part : List Event) (i
       let its = planned_ends s m (Ok plan) part is in
       ap (list_all is_compile_command) its.2.2.commands ∙ compile_roles m.build.config m.build.env its.0.here (its_look s m (Ok plan) part is)
 
+  -- no call faulted
+  pub plan_sound : list_any is_fault part ≡ false
+  plan_sound =
+      let its = planned_ends s m (Ok plan) part is in
+      went_faultless no_terms (planning_stages m.build.config m.build.env its.0 (its_look s m (Ok plan) part is) its.1 m.output) part no_means no_means (its.2.3 no_terms no_means).1
+
   -- there is one for each source
   pub plan_count : length plan.commands.items ≡ length m.build.config.files
   plan_count =
@@ -167,6 +175,26 @@ module _ (s : Site) (m : MemberSeen) where
         let some = some_agree (answers g.made) g.made_asks.once in
         let made : NothingRuns g.made = creates_settled (with_objects m.build (objects_at m)) g.listens s.patience given m.output some.0 g.made g.written (g.creates.under some.0 some.1) in
         ap running g.cut ∙ running_behind g.made g.linked made ∙ links_settled g.listens g.written answer g.linked g.links
+
+    -- a fault ends it: behind that children are abandoned, and nothing else is done
+    pub segment_faults : FaultsEnd part
+    segment_faults = by_library g.written g.links (λ look. g.creates.under look)
+      where
+        by_library : (written : Result (List ℕ) ErrorSeen) → LinksBehind s g.listens m written answer g.linked → ((look : Look) → Agrees look (answers g.made) → Creates (with_objects m.build (objects_at m)) g.listens s.patience given m.output written look g.made) → FaultsEnd part
+        by_library (Err f) links creates =
+            let some = some_agree (answers g.made) g.made_asks.once in
+            subst FaultsEnd (sym (g.cut ∙ ap (λ l. g.made ++ l) links.1 ∙ append-nil g.made)) (creates_faults {T = List ℕ} (with_objects m.build (objects_at m)) g.listens s.patience given m.output some.0 g.made (Err f) (creates some.0 some.1))
+        by_library (Ok library) links creates =
+            let look = some_agree (answers g.made) g.made_asks.once in
+            let b = with_objects m.build (objects_at m) in
+            let made = creates look.0 look.1 in
+            let c = course_alone s.patience given made.0 in
+            let sound = went_faultless (terms_for b g.listens c) (creation_stages b.config b.env made.1.0 look.0 made.1.1 m.output) g.made c.before c.after made.1.2.1.1 in
+            let some = some_agree (answers g.linked) links.0.once in
+            let ends = links.1.under some.0 some.1 in
+            let stages = directive_stages m.build.config m.build.env g.listens some.0 ends.0 library in
+            let partly = ended_partly no_terms (directive_error m.build.config m.build.env some.0 library) stages g.linked answer no_means no_means (ends.1.1 no_terms no_means) in
+            subst FaultsEnd (sym g.cut) (then_faults g.made g.linked sound (λ before after call why real at. fault_ends no_terms stages g.linked no_means no_means before after call why real at partly))
 
     -- for want of turns it ends with none left
     pub segment_spent : (e : ErrorSeen) (left : ℕ) → answer ≡ Err e → e.kind ≡ SpendsTurns → left + turns part ≡ given → left ≡ 0

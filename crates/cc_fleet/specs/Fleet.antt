@@ -1,5 +1,5 @@
 -- Several builds under one pool: each is planned, their commands are run as one list, and libraries are written.
-use Rattle.std.specs.Prelude.{◌≡◌, ◌⊎◌, ◌+◌, ℕ, suc, List, [], ◌∷◌, ◌++◌, map, Bool, true, false, Option, None, Some, Result, Ok, Err, codes}
+use Rattle.std.specs.Prelude.{◌≡◌, ◌⊎◌, ◌+◌, ℕ, suc, List, [], ◌∷◌, ◌++◌, map, Bool, true, false, Option, None, Some, Result, Ok, Err, IfOk, codes}
 use Rattle.std.specs.Fmt.{decimal}
 use Rattle.std.specs.List.{flat_map}
 use Rattle.cc_host.specs.Question.{answers, Holds}
@@ -77,14 +77,14 @@ clash_error first second = record {
 
 -- two members write one file, or memory was wanted
 abbrev pub IsClash : List MemberSeen → ErrorSeen → Type 0
-IsClash ms e =
-    (e ≡ no_memory) ⊎ ((pair : ℕ × ℕ) × (IsFirstClash (map files_of ms) pair × (e ≡ clash_error pair.0 pair.1)))
+IsClash ms e = (e ≡ no_memory)
+    ⊎ ((pair : ℕ × ℕ) × (IsFirstClash (map files_of ms) pair × (e ≡ clash_error pair.0 pair.1)))
 
 -- ---- plans
 
 -- the call that plans a member answered so, and this is its part; the host listens, or it doesn't
-pub record IsPlanned (s : Site) (m : MemberSeen) (answer : Result CompilePlan ErrorSeen)
-    (part : List Event) : Type 0 where
+pub record IsPlanned (s : Site) (m : MemberSeen) (answer : Result CompilePlan ErrorSeen) (part : List Event)
+    : Type 0 where
   pub listens : Bool
   pub asked : AsksByRun s.steady s.world m.build part
   pub ends : Holds (answers part) (λ look. PlanningEnds m.build listens m.output answer look part)
@@ -153,13 +153,14 @@ LinksBehind s listens m (Ok library) answer part = AsksByRun s.steady s.world m.
 
 -- With so many turns the library of a member was written from the objects of its sources and the added ones, and then
 -- its link lines were printed; or one of the two was refused. Each asks its own questions.
-pub record Segment (s : Site) (m : MemberSeen) (answer : Result (Unit {0}) ErrorSeen) (part : List Event)
-    (given : ℕ) : Type 0 where
+pub record Segment (s : Site) (m : MemberSeen) (answer : Result (Unit {0}) ErrorSeen) (part : List Event) (given : ℕ)
+    : Type 0 where
   pub listens : Bool
   pub made : List Event
   pub linked : List Event
   pub cut : part ≡ made ++ linked
   pub written : Result (List ℕ) ErrorSeen
+  pub path : IfOk written (λ path. path ≡ library_at m)
   pub made_asks : AsksByRun s.steady s.world (with_objects m.build (objects_at m)) made
   pub creates : Holds (answers made)
       (λ look. Creates (with_objects m.build (objects_at m)) listens s.patience given m.output written look made)
@@ -193,15 +194,15 @@ EndsFailed cmds failure (Ok (Refused e)) = e ≡ run_error cmds (Failed failure.
 EndsFailed cmds failure (Err e) = e ≡ no_memory
 
 -- of a member with a failed command no library is written
-abbrev pub EndsMember : Site → List Planned → MemberSeen → Option Failure → Result FleetEnd ErrorSeen → List Event
-    → ℕ → ℕ → Type 0
+abbrev pub EndsMember : Site → List Planned → MemberSeen → Option Failure → Result FleetEnd ErrorSeen
+    → List Event → ℕ → ℕ → Type 0
 EndsMember s cmds m (Some failure) answer part given left =
     EndsFailed cmds failure answer × (part ≡ []) × (left ≡ given)
 EndsMember s cmds m None answer part given left = EndsBuilt s m answer part given left
 
 -- each member has its end, one after another; the first of them has that place
-abbrev pub EndsEach : Site → List Planned → (ℕ → Option Failure) → ℕ → List MemberSeen → List FleetEnd → List Event
-    → ℕ → ℕ → Type 0
+abbrev pub EndsEach : Site → List Planned → (ℕ → Option Failure) → ℕ → List MemberSeen → List FleetEnd
+    → List Event → ℕ → ℕ → Type 0
 EndsEach s cmds failure place [] [] part given left = (part ≡ []) × (left ≡ given)
 EndsEach s cmds failure place (m ∷ ms) (end ∷ ends) part given left = (front rest : List Event) × (mid : ℕ)
     × ((part ≡ front ++ rest) × EndsMember s cmds m (failure place) (Ok end) front given mid
@@ -209,8 +210,8 @@ EndsEach s cmds failure place (m ∷ ms) (end ∷ ends) part given left = (front
 EndsEach s cmds failure place _ _ part given left = ⊥
 
 -- the first members have their ends, and then the next one ended the call, or memory was wanted
-abbrev pub EndsUntil : Site → List Planned → (ℕ → Option Failure) → ℕ → List MemberSeen → ErrorSeen → List Event
-    → ℕ → ℕ → Type 0
+abbrev pub EndsUntil : Site → List Planned → (ℕ → Option Failure) → ℕ → List MemberSeen → ErrorSeen
+    → List Event → ℕ → ℕ → Type 0
 EndsUntil s cmds failure place [] e part given left = (e ≡ no_memory) × (part ≡ []) × (left ≡ given)
 EndsUntil s cmds failure place (m ∷ ms) e part given left = ((e ≡ no_memory) × (part ≡ []) × (left ≡ given))
     ⊎ (EndsMember s cmds m (failure place) (Err e) part given left
@@ -241,9 +242,8 @@ pub record Prepared (s : Site) (ms : List MemberSeen) (plans : List CompilePlan)
 -- Behind the plans the commands of all members were run to their ends as one list, each under a token of the one pool
 -- and none stopped by the failure of another. Then came the ends of the members, in order: the library was written and
 -- linked of each of which no command failed.
-pub record Finished (s : Site) (total : Option ℕ) (ms : List MemberSeen)
-    (answer : Result (List FleetEnd) ErrorSeen) (part : List Event) (x y : Means)
-    : Type 0 where
+pub record Finished (s : Site) (total : Option ℕ) (ms : List MemberSeen) (answer : Result (List FleetEnd) ErrorSeen)
+    (part : List Event) (x y : Means) : Type 0 where
   pub planning : List Event
   pub running : List Event
   pub segments : List Event
@@ -277,8 +277,8 @@ pub record RunStops (s : Site) (total : Option ℕ) (ms : List MemberSeen) (e : 
 
 -- Ok: each member has its end. Else a plan was refused; or two members write one file; or the run of the commands was
 -- refused; or a library ended the call.
-abbrev pub Fleet : Site → Option ℕ → List MemberSeen → Result (List FleetEnd) ErrorSeen → List Event → Means
-    → Means → Type 0
+abbrev pub Fleet : Site → Option ℕ → List MemberSeen → Result (List FleetEnd) ErrorSeen → List Event → Means → Means
+    → Type 0
 Fleet s total ms (Ok ends) part x y = Finished s total ms (Ok ends) part x y
 Fleet s total ms (Err e) part x y = (PlansUntil s ms e part × (y ≡ x))
     ⊎ (Clashes s ms e part x y ⊎ (RunStops s total ms e part x y ⊎ Finished s total ms (Err e) part x y))

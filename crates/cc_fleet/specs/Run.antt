@@ -23,15 +23,13 @@ use Rattle.cc_fleet.specs.declared.joined.Joined.{Joined}
 
 -- several commands were run beside each other, as a list, and these are the marks of what began and ended
 pub record RanSeveral (t : Terms) (ps : List Planned) (part : List Event) (answer : Result (List Mark) RunError)
-    (x y : Means)
-    : Type 0 where
+    (x y : Means) : Type 0 where
   pub log : List Event
   pub before : ℕ
   pub behind : ℕ
   pub least : IfSome t.patience (λ most. 1 ≤ most)
   pub run : RanAll (beside_rules t ps) t.total (begins t log (idle_seat t.total x) (turns_at x before)) answer
-      (log ++ part) t.patience
-      (idle_seat t.total y) (turns_at y behind)
+      (log ++ part) t.patience (idle_seat t.total y) (turns_at y behind)
   pub lines : IsPrinted (beside_rules t ps) nothing_kept answer part
 
 -- of one that is run alone it only counts whether it failed
@@ -57,8 +55,7 @@ pub record AreFailures (all : Joined) (marks : List Mark) (failures : List (Opti
 
 -- the commands were run to their ends, and these are the failures
 pub record RanTo (t : Terms) (cmds : List Planned) (all : Joined) (failures : List (Option Failure))
-    (part : List Event) (x y : Means)
-    : Type 0 where
+    (part : List Event) (x y : Means) : Type 0 where
   pub marks : List Mark
   pub ran : RanJoined t cmds part (Ok marks) x y
   pub are : AreFailures all marks failures
@@ -93,8 +90,7 @@ RunsAlone log patience given left host host' shows cmd all answer = (total : Opt
 
 -- several were run in this course
 abbrev pub RunsBeside : Shows → Joined → Result (Vec (Option Failure)) RunError → List Event → Course → Type 0
-RunsBeside shows all (Ok failures) part c =
-    (marks : List Mark)
+RunsBeside shows all (Ok failures) part c = (marks : List Mark)
     × (RanSeveral (terms shows c.total c.patience) all.commands.items part (Ok marks) c.before c.after
     × AreFailures all marks failures.items)
 RunsBeside shows all (Err e) part c = (answer : Result (List Mark) RunError)

@@ -21,7 +21,7 @@ returns-clause-segment g c =
     let mid = g.H.Host.log c.create_archive.new.host in
     let new = g.H.Host.log c.emit_link_directives.new.host in
     segment_linked s (member_seen c.args.member.now) (g.H.Host.listens c.args.host.now) c.args.objects.now c.as_str-output.result.now c.requires.objects c.as_str-output.ensures c.args.left.now (since old mid) c.create_archive.ensures.asked
-    c.in_ok-library.library c.as_str.result.now c.listens-listens.result c.emit_link_directives.result (since mid new) (since old new) c.in_ok-library.ensures.outcome
+    c.in_ok-library.library c.as_str.result.now c.listens-listens.result c.emit_link_directives.result (since mid new) (since old new) c.in_ok-library.ensures.outcome c.in_ok-library.ensures.library
     (since_since old mid new c.create_archive.ensures.extends c.emit_link_directives.ensures.extends) c.as_str.ensures c.listens-listens.ensures c.emit_link_directives.ensures.asked c.emit_link_directives.ensures.outcome
 
 pub returns-clause-sum : goal.returns-clause-sum
