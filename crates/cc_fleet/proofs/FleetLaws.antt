@@ -291,7 +291,7 @@ module _ (s : Site) where
       let its = planned_ends s m (Err e) part is in
       let look = its_look s m (Err e) part is in
       still_cause no_terms (planning_error m.build.config m.build.env look m.output) (planning_stages m.build.config m.build.env its.0 look its.1 m.output) part e no_means no_means
-      (still_planning m.build.config m.build.env is.listens look m.output its.0 its.1) (plain_planning m.build.config m.build.env its.0 look its.1 m.output) (its.2.3 no_terms no_means)
+      (still_planning m.build.config m.build.env look m.output its.0 its.1) (plain_planning m.build.config m.build.env its.0 look its.1 m.output) (its.2.3 no_terms no_means)
 
   unplanned_cause : (ms : List MemberSeen) (e : ErrorSeen) (part : List Event) → PlansUntil s ms e part → (e ≡ no_memory) ⊎ (RefusedPlan ms e part ⊎ HasFault part)
   unplanned_cause [] e part h = inl h.0

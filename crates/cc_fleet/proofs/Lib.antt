@@ -11,3 +11,4 @@ pub mod PlannedLaws
 pub mod PartLaws
 pub mod CauseLaws
 pub mod FleetLaws
+pub mod PathLaws

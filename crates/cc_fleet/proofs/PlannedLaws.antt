@@ -28,7 +28,7 @@ use Rattle.cc_build.specs.Intermediates.{source_reads}
 use Rattle.cc_build.specs.Linking.{directive_error, directive_stages}
 use Rattle.cc_build.specs.Planning.{PlanningEnds, planning_error, planning_stages}
 use Rattle.cc_build.specs.Promises.{terms_for, is_compile_role, NothingRuns, FaultsEnd}
-use Rattle.cc_build.specs.Stage.{Stage, calls, commands_in, compile_planned, compiles_planned, opening_steps, folder_stages, told_opening, rerun_lines}
+use Rattle.cc_build.specs.Stage.{Stage, calls, commands_in, compile_planned, compiles_planned, opening_steps, folder_stages, name_stages, rerun_lines}
 use Rattle.cc_build.specs.Stage.Stage.{Calls, Asks, Tries, RunsOne, RunsAll}
 use Rattle.cc_build.specs.Way.{Found, Firsts, Writing, chosen}
 use Rattle.cc_build.specs.Went.{means, Halted, Ends, Partly}
@@ -67,16 +67,17 @@ still_commands (RunsAll ps ∷ stages) still = absurd still.0
 pub plain_planning : (set : BuildConfig) (env : EnvSeen) (found : Found) (look : Look) (firsts : Firsts) (output : List ℕ) → ArePlain (planning_stages set env found look firsts output)
 plain_planning set env found look firsts output =
     let opening = opening_steps set env found look in
-    let names = rerun_lines (chosen firsts.names (rerun_names (source_reads set) set env look)) in
-    let told : List Stage = told_opening set env (source_reads set) found look firsts in
+    let names : List Stage = name_stages set env (source_reads set) look firsts in
+    let told : List Stage = calls opening ++ Asks ∷ names in
     let asked : List Stage = Asks ∷ (if is_some (late_refusal set env look) then [] else told) in
     let rest : List Stage = if is_disabled env then [] else asked in
+    let behind : ArePlain (Asks ∷ names) = (tt, plain_lines Rerun (rerun_lines (chosen firsts.names (rerun_names (source_reads set) set env look)))) in
     plain_unless (is_some (early_refusal set env output)) (folder_stages set env ++ rest)
     (plain_then (folder_stages set env) rest (plain_folder set env)
     (plain_unless (is_disabled env) asked (
       tt,
       plain_unless (is_some (late_refusal set env look)) told
-          (plain_then (calls opening) (Asks ∷ calls _) (plain_notes opening (opening_notes set env found look)) (tt, plain_lines Rerun names)),
+          (plain_then (calls opening) (Asks ∷ names) (plain_notes opening (opening_notes set env found look)) behind),
     )))
 
 -- ---- a member that is planned, or refused
@@ -115,7 +116,7 @@ module _ (s : Site) (m : MemberSeen) (answer : Result CompilePlan ErrorSeen) (pa
   pub planned_untried : attempts part ≡ []
   planned_untried =
       let first = partly_first no_terms its_stages part no_means no_means (plain_planning m.build.config m.build.env planned_ends.0 its_look planned_ends.1 m.output) planned_partly in
-      let none : commands_in its_stages ≡ [] = still_commands its_stages (still_planning m.build.config m.build.env is.listens its_look m.output planned_ends.0 planned_ends.1) in
+      let none : commands_in its_stages ≡ [] = still_commands its_stages (still_planning m.build.config m.build.env its_look m.output planned_ends.0 planned_ends.1) in
       front_none (attempts part) first.0 (sym first.1 ∙ ap (map to_attempt) none)
     where
       front_none : {X : Type 0} (a b : List X) → a ++ b ≡ [] → a ≡ []
