@@ -5,6 +5,7 @@ pub mod BesideLaws
 pub mod BuiltLaws
 pub mod ChildLaws
 pub mod Doing
+pub mod ExistenceLaws
 pub mod ExpandFaults
 pub mod ExpandFirst
 pub mod ExpandLaws
