@@ -6,6 +6,7 @@ pub mod BuiltLaws
 pub mod CauseLaws
 pub mod ChildLaws
 pub mod Doing
+pub mod ExistenceLaws
 pub mod ExpandFaults
 pub mod ExpandFirst
 pub mod ExpandLaws

@@ -14,6 +14,7 @@ mod compiling;
 mod directives;
 mod environment;
 mod error;
+mod existence;
 mod expand;
 mod goal;
 mod intermediates;

@@ -3,3 +3,5 @@ pub mod ReaderLemmas
 pub mod DigestLemmas
 pub mod RecordLaws
 pub mod ReadLemmas
+pub mod ReasonLaws
+pub mod MadeLaws

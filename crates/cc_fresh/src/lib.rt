@@ -7,8 +7,10 @@
 
 mod deps;
 mod digests;
+mod made;
 mod read;
 mod reader;
+mod reason;
 mod record;
 mod step;
 mod write;
@@ -16,5 +18,6 @@ mod write;
 pub use deps::{DepsError, read_deps};
 pub use digests::{command_digest, digest};
 pub use read::read_record;
+pub use reason::{Reason, Reasons};
 pub use record::{Entry, Record, reads_back};
 pub use write::write_record;

@@ -1,0 +1,26 @@
+use Rattle.std.proofs.Common.{Option, ℕ, suc, option_map, refl, sym, ap}
+use Rattle.cc_fresh.specs.Reason.{reason_at}
+use Rattle.cc_fresh.proofs.ReasonLaws.{source_off, source_then}
+use Rattle.cc_fresh.proofs.reason.read_reason.Goals as goal
+
+pub returns-then-not-branch-clause-read : goal.returns-then-not-branch-clause-read
+returns-then-not-branch-clause-read g c =
+    let old = g.F.Files.reads c.args.files.now in
+    let new = g.F.Files.reads c.read_one.new.files in
+    source_off old new new c.args.source.now c.args.source.now c.as_str.result.now c.args.entry.now refl c.as_str.ensures c.in_ok-read_one.field-0 c.if-not-branch.true c.in_ok-read_one.ensures.read
+
+pub returns-in-Some-clause-read : goal.returns-in-Some-clause-read
+returns-in-Some-clause-read g c =
+    let old = g.F.Files.reads c.args.files.now in
+    let mid = g.F.Files.reads c.read_one.new.files in
+    let new = g.F.Files.reads c.first_off.new.files in
+    source_then old mid new c.args.source.now c.args.source.now c.as_str.result.now c.args.entry.now refl c.as_str.ensures c.in_ok-read_one.field-0 c.if-not-branch.false c.in_ok-read_one.ensures.read
+    c.as_slice.result.now c.in_ok-place.field-0 _ c.as_slice.ensures (sym (ap (λ (off : Option ℕ). reason_at (option_map suc off)) c.in-Some.is)) c.in_ok-place.ensures.read
+
+pub returns-in-None-clause-read : goal.returns-in-None-clause-read
+returns-in-None-clause-read g c =
+    let old = g.F.Files.reads c.args.files.now in
+    let mid = g.F.Files.reads c.read_one.new.files in
+    let new = g.F.Files.reads c.first_off.new.files in
+    source_then old mid new c.args.source.now c.args.source.now c.as_str.result.now c.args.entry.now refl c.as_str.ensures c.in_ok-read_one.field-0 c.if-not-branch.false c.in_ok-read_one.ensures.read
+    c.as_slice.result.now c.in_ok-place.field-0 _ c.as_slice.ensures (sym (ap (λ (off : Option ℕ). reason_at (option_map suc off)) c.in-None.is)) c.in_ok-place.ensures.read
