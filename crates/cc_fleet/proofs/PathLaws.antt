@@ -37,8 +37,8 @@ use Rattle.cc_fleet.proofs.EndLemmas.{no_terms, no_means}
 -- ---- settings
 
 first_part : (a b c : Option ErrorSeen) → ArePathless (first_of a (first_of b c)) → ArePathless (first_of a b)
-first_part (Some x) b c h = h
-first_part None (Some y) c h = h
+first_part (Some x) b c h e is = h e is
+first_part None (Some y) c h e is = h e is
 first_part None None c h e is = absurd (cc)
 
 planning_pathless : (set : BuildConfig) (env : EnvSeen) (look : Look) (output : List ℕ) → ArePathless (planning_error set env look output)
