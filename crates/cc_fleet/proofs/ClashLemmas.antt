@@ -39,16 +39,16 @@ module _ (Own Next : ℕ → List ℕ → Type 0) (place : ℕ) (key : List ℕ)
 
   owned : (p : ℕ) (k : List ℕ) → place_at new k ≡ Some p → Next p k
   owned p k at = by_key k
-    (λ is. let h : Some place ≡ Some p = sym (put_here k is) ∙ at in let e : place ≡ p = cc in subst (λ q. Next q k) e (subst (λ l. Next place l) is here))
-    (λ differ. kept p k (noted.owned p k (sym (put_kept k differ) ∙ at)))
+      (λ is. let h : Some place ≡ Some p = sym (put_here k is) ∙ at in let e : place ≡ p = cc in subst (λ q. Next q k) e (subst (λ l. Next place l) is here))
+      (λ differ. kept p k (noted.owned p k (sym (put_kept k differ) ∙ at)))
 
   last : (p : ℕ) (k : List ℕ) → Next p k → (other : ℕ) × (p ≤ other) × (place_at new k ≡ Some other)
   last p k n = by_key k
-    (λ is. (place, up_to p k n, put_here k is))
-    (λ differ. elim (from p k n) [
-      | inl o ↦ let l = noted.last p k o in (l.0, l.1, put_kept k differ ∙ l.2)
-      | inr is ↦ absurd (differ is.1)
-    ])
+      (λ is. (place, up_to p k n, put_here k is))
+      (λ differ. elim (from p k n) [
+        | inl o ↦ let l = noted.last p k o in (l.0, l.1, put_kept k differ ∙ l.2)
+        | inr is ↦ absurd (differ is.1)
+      ])
 
   -- a pair that is new has the key and the place
   both_from : (a b : ℕ) → OwnBoth Next a b → OwnBoth Own a b ⊎ (Own a key × (b ≡ place) × (a < place))
@@ -66,7 +66,7 @@ module _ (Own Next : ℕ → List ℕ → Type 0) (place : ℕ) (key : List ℕ)
   -- where no pair is new, the first stays
   same_first : (p : Option (ℕ × ℕ)) → ((a b : ℕ) → OwnBoth Next a b → OwnBoth Own a b) → MatchOption p ((a b : ℕ) → OwnBoth Own a b → ⊥) (IsFirstOfOwners Own) → MatchOption p ((a b : ℕ) → OwnBoth Next a b → ⊥) (IsFirstOfOwners Next)
   same_first None back none = λ a b both. none a b (back a b both)
-  same_first (Some f) back is = record { both = both_kept f.0 f.1 is.both; first = λ a b before both. is.first a b before (back a b both); }
+  same_first (Some f) back is = record { both = both_kept f.0 f.1 is.both; first = λ a b before both. is.first a b before (back a b both) }
 
   -- the last owner of the key
   module _ (owner : ℕ) (was : place_at old key ≡ Some owner) where
@@ -125,16 +125,16 @@ module _ (Own Next : ℕ → List ℕ → Type 0) (place : ℕ) (key : List ℕ)
     own_again l a b both = elim (both_from a b both) [
       | inl o ↦ o
       | inr n ↦
-        let mine = noted.owned owner key was in
-        let u = noted.up_to owner key mine in
-        let e : owner ≡ place = omega (arith, l, u) in
-        (key, both.1, n.0, subst (λ q. Own q key) (e ∙ sym n.1) mine)
+          let mine = noted.owned owner key was in
+          let u = noted.up_to owner key mine in
+          let e : owner ≡ place = omega (arith, l, u) in
+          (key, both.1, n.0, subst (λ q. Own q key) (e ∙ sym n.1) mine)
     ]
 
     first_some : MatchOption (first_with pair (Some owner) place) ((a b : ℕ) → OwnBoth Next a b → ⊥) (IsFirstOfOwners Next)
     first_some = cond_both (ltb owner place) (Some (first_of_two pair owner place)) pair (λ r. MatchOption r ((a b : ℕ) → OwnBoth Next a b → ⊥) (IsFirstOfOwners Next))
-      (λ e. first_two (ltb-true owner place e) pair noted.first)
-      (λ e. same_first pair (own_again (ltb-false owner place e)) noted.first)
+        (λ e. first_two (ltb-true owner place e) pair noted.first)
+        (λ e. same_first pair (own_again (ltb-false owner place e)) noted.first)
 
   first_by : (owner : Option ℕ) → place_at old key ≡ owner → MatchOption (first_with pair owner place) ((a b : ℕ) → OwnBoth Next a b → ⊥) (IsFirstOfOwners Next)
   first_by None was = same_first pair (λ a b both. elim (both_from a b both) [
@@ -144,7 +144,7 @@ module _ (Own Next : ℕ → List ℕ → Type 0) (place : ℕ) (key : List ℕ)
   first_by (Some owner) was = first_some owner was
 
   pub noted_more : (owner : Option ℕ) → place_at old key ≡ owner → IsNoted Next place new (first_with pair owner place)
-  noted_more owner was = record { up_to = up_to; owned = owned; last = last; first = first_by owner was; }
+  noted_more owner was = record { up_to = up_to; owned = owned; last = last; first = first_by owner was }
 
 -- ---- the owners of the files so far
 

@@ -69,8 +69,8 @@ pub record IsFirstOfOwners (Own : ℕ → List ℕ → Type 0) (pair : ℕ × �
   pub first : (a b : ℕ) → ComesBefore (a, b) pair → OwnBoth Own a b → ⊥
 
 -- each key is at the last of its owners, none of which is behind the place, and this is the first pair of owners
-pub record IsNoted (Own : ℕ → List ℕ → Type 0) (place : ℕ) (at : PathPlaces) (pair : Option (ℕ × ℕ))
-: Type 0 where
+pub record IsNoted (Own : ℕ → List ℕ → Type 0) (place : ℕ) (at : PathPlaces)
+    (pair : Option (ℕ × ℕ)) : Type 0 where
   pub up_to : (owner : ℕ) (key : List ℕ) → Own owner key → owner ≤ place
   pub owned : (owner : ℕ) (key : List ℕ) → place_at at key ≡ Some owner → Own owner key
   pub last : (owner : ℕ) (key : List ℕ) → Own owner key

@@ -37,7 +37,11 @@ fn first_of_two(first: Option<(usize, usize)>, earlier: usize, place: usize) -> 
 }
 
 // The same, where the member at a place writes a file too, whose last owner so far is given.
-fn first_with(first: Option<(usize, usize)>, owner: Option<u64>, place: usize) -> Option<(usize, usize)>
+fn first_with(
+    first: Option<(usize, usize)>,
+    owner: Option<u64>,
+    place: usize,
+) -> Option<(usize, usize)>
     ensures { result ≡ first_of first owner place }
 {
     match owner {
