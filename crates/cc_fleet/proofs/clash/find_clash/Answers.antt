@@ -1,7 +1,7 @@
 use Rattle.std.proofs.Common.{◌≡◌, ◌<◌, [], length, ◌+◌, sym, ap, subst, arith}
 use Rattle.std.specs.Path.{path_components}
 use Rattle.cc_text.specs.Places.{place_at}
-use Rattle.cc_fleet.specs.Clash.{IsNoted, Owns, files_at, key_of, first_with}
+use Rattle.cc_fleet.specs.Clash.{IsNoted, Owns, files_at, key_of}
 use Rattle.cc_fleet.proofs.ClashLemmas.{item_is, noted_none, noted_file, noted_member, first_clash}
 use Rattle.cc_fleet.proofs.clash.find_clash.Goals as goal
 
