@@ -1,4 +1,5 @@
 pub mod FailureLemmas
+pub mod KeyLemmas
 pub mod ClashLemmas
 pub mod OwnerLemmas
 pub mod MemberLemmas

@@ -1,5 +1,6 @@
 -- Members that write one file. A file is a path, and two paths name one file where they have the same components.
-use Rattle.std.specs.Prelude.{◌≡◌, ◌⊎◌, ◌<◌, ℕ, List, [], ◌∷◌, ◌++◌, length, Some}
+use Rattle.std.specs.Prelude.{◌≡◌, ◌⊎◌, ◌<◌, ◌≤◌, ℕ, List, [], ◌∷◌, ◌++◌, length}
+use Rattle.std.specs.Prelude.{Option, Some, None, MatchOption, nat_lt, if◌then◌else◌}
 use Rattle.std.specs.List.{Contains, flat_map, slice_index_or}
 use Rattle.std.specs.Path.{path_components}
 use Rattle.cc_text.specs.Places.{place_at}
@@ -36,28 +37,42 @@ pub record IsFirstClash (members : List (List (List ℕ))) (pair : ℕ × ℕ) :
   pub clash : Clash members pair.0 pair.1
   pub first : (a b : ℕ) → ComesBefore (a, b) pair → Clash members a b → ⊥
 
--- no member behind that place writes a file of the one there
-abbrev pub SharesNone : List (List (List ℕ)) → ℕ → Type 0
-SharesNone members place = (other : ℕ) → Clash members place other → ⊥
-
--- this is the first that does
-pub record IsFirstSharing (members : List (List (List ℕ))) (place other : ℕ) : Type 0 where
-  pub clash : Clash members place other
-  pub first : (b : ℕ) → b < other → Clash members place b → ⊥
-
 -- ---- how one is found
 
 -- a path's key: a slash behind each of its components
 abbrev pub key_of : List (List ℕ) → List ℕ
 key_of = flat_map (λ component. component ++ 47 ∷ [])
 
--- these files have the place, and what had another has it still
-pub record PutsAt (old new : PathPlaces) (place : ℕ) (files : List (List ℕ)) : Type 0 where
-  pub kept : (text : List ℕ) (other : ℕ) → (other ≡ place → ⊥) → place_at old text ≡ Some other
-      → place_at new text ≡ Some other
-  pub there : (file : List ℕ) → Contains files file → place_at new (key_of (path_components file)) ≡ Some place
+-- the member writes a file with the key, which comes before that file of the member at that place
+abbrev pub Owns : List (List (List ℕ)) → ℕ → ℕ → ℕ → List ℕ → Type 0
+Owns members place file owner key =
+    (k : ℕ) × (k < length (files_at members owner)) × ComesBefore (owner, k) (place, file)
+    × (key_of (path_components (slice_index_or (files_at members owner) k [])) ≡ key)
 
--- each file of the first members has the place of its member
-pub record AreAt (places : PathPlaces) (count : ℕ) (members : List (List (List ℕ))) : Type 0 where
-  pub at : (place : ℕ) (file : List ℕ) → place < count → Contains (files_at members place) file
-      → place_at places (key_of (path_components file)) ≡ Some place
+-- the first pair, where an earlier member and the one at a place write one file
+abbrev pub first_of_two : Option (ℕ × ℕ) → ℕ → ℕ → ℕ × ℕ
+first_of_two None earlier place = (earlier, place)
+first_of_two (Some first) earlier place = if nat_lt earlier first.0 then (earlier, place) else first
+
+-- the same, where the member at a place writes a file too, whose last owner so far is given
+abbrev pub first_with : Option (ℕ × ℕ) → Option ℕ → ℕ → Option (ℕ × ℕ)
+first_with first None place = first
+first_with first (Some owner) place = if nat_lt owner place then Some (first_of_two first owner place) else first
+
+-- two members, in this order, own one key
+abbrev pub OwnBoth : (ℕ → List ℕ → Type 0) → ℕ → ℕ → Type 0
+OwnBoth Own a b = (key : List ℕ) × (a < b) × Own a key × Own b key
+
+-- these two own one key, and no pair before them does
+pub record IsFirstOfOwners (Own : ℕ → List ℕ → Type 0) (pair : ℕ × ℕ) : Type 0 where
+  pub both : OwnBoth Own pair.0 pair.1
+  pub first : (a b : ℕ) → ComesBefore (a, b) pair → OwnBoth Own a b → ⊥
+
+-- each key is at the last of its owners, none of which is behind the place, and this is the first pair of owners
+pub record IsNoted (Own : ℕ → List ℕ → Type 0) (place : ℕ) (at : PathPlaces)
+    (pair : Option (ℕ × ℕ)) : Type 0 where
+  pub up_to : (owner : ℕ) (key : List ℕ) → Own owner key → owner ≤ place
+  pub owned : (owner : ℕ) (key : List ℕ) → place_at at key ≡ Some owner → Own owner key
+  pub last : (owner : ℕ) (key : List ℕ) → Own owner key
+      → (other : ℕ) × (owner ≤ other) × (place_at at key ≡ Some other)
+  pub first : MatchOption pair ((a b : ℕ) → OwnBoth Own a b → ⊥) (IsFirstOfOwners Own)

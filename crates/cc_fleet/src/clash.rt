@@ -1,13 +1,14 @@
 // Whether two members write one file.
-ghost use Rattle.std.specs.Prelude.{◌≡◌, ◌⊎◌, ◌<◌, None, Some, true, false, length, IfOk, MatchOption};
+ghost use Rattle.std.specs.Prelude.{◌≡◌, IfOk, MatchOption};
 ghost use Rattle.std.specs.Path.{path_components};
-ghost use Rattle.cc_fleet.specs.Clash.{Writes, Share, NoClash, IsFirstClash, SharesNone, IsFirstSharing, PutsAt, key_of as key_by};
+ghost use Rattle.cc_fleet.specs.Clash.{NoClash, IsFirstClash, key_of as key_by};
+ghost use Rattle.cc_fleet.specs.Clash.{first_of_two as first_by, first_with as first_of};
 
-use cc_text::{Mem, PathPlaces, Text, Words, same_path};
+use cc_text::{Mem, PathPlaces, Text, Words};
 use std::alloc::Global;
 use std::path::Path;
 
-// A text that is the same for all paths of the same components.
+// A text that is the same for all paths of the same components, and for no others.
 fn key_of(alloc: Global, path: &str) -> Mem<Text>
     ensures { IfOk result (λ key. key ≡ key_by (path_components path.now)) }
 {
@@ -19,105 +20,57 @@ fn key_of(alloc: Global, path: &str) -> Mem<Text>
     Ok(key)
 }
 
-// Whether there is a place, and it is another than this.
-fn is_other(earlier: Option<u64>, place: u64) -> bool
-    ensures { result ≡ false → (earlier ≡ None) ⊎ (earlier ≡ Some place) }
+// The first pair, where an earlier member and the one at a place write one file.
+fn first_of_two(first: Option<(usize, usize)>, earlier: usize, place: usize) -> (usize, usize)
+    ensures { result ≡ first_by first earlier place }
 {
-    match earlier {
-        Some(earlier) => earlier != place,
-        None => false,
+    match first {
+        Some((a, b)) => {
+            if earlier < a {
+                (earlier, place)
+            } else {
+                (a, b)
+            }
+        }
+        None => (earlier, place),
     }
 }
 
-// Whether one of these files is written by an earlier member; each of them gets its place.
-fn repeats(alloc: Global, places: &mut PathPlaces, place: u64, files: &Words) -> Mem<bool>
-    ensures { IfOk result (λ found.
-        found ≡ false → PutsAt places.old places.new place files.now) }
+// The same, where the member at a place writes a file too, whose last owner so far is given.
+fn first_with(
+    first: Option<(usize, usize)>,
+    owner: Option<u64>,
+    place: usize,
+) -> Option<(usize, usize)>
+    ensures { result ≡ first_of first owner place }
 {
-    for path in files.as_slice() {
-        let key = key_of(alloc, path.as_str())?;
-        let earlier = places.put(alloc, key.as_str(), place)?;
-        if is_other(earlier, place) {
-            return Ok(true);
+    match owner {
+        Some(owner) => {
+            let owner = owner as usize;
+            if owner < place {
+                Some(first_of_two(first, owner, place))
+            } else {
+                first
+            }
         }
+        None => first,
     }
-    Ok(false)
-}
-
-// Whether some two members may write one file: false only where no two do.
-fn any_repeats(alloc: Global, members: &[Words]) -> Mem<bool>
-    ensures { IfOk result (λ found. found ≡ false → NoClash members.now) }
-{
-    let mut places = PathPlaces::new(alloc);
-    for (place, files) in members.iter().enumerate() {
-        if repeats(alloc, &mut places, place as u64, files)? {
-            return Ok(true);
-        }
-    }
-    Ok(false)
-}
-
-// Whether a path is that of one of these files.
-fn writes(files: &[Text], path: &str) -> bool
-    ensures yes { result ≡ true → Writes files.now path.now }
-    ensures no { result ≡ false → Writes files.now path.now → ⊥ }
-{
-    for file in files {
-        if same_path(file.as_str(), path) {
-            return true;
-        }
-    }
-    false
-}
-
-// Whether one file is among these and among those.
-fn share(files: &[Text], others: &[Text]) -> bool
-    ensures yes { result ≡ true → Share files.now others.now }
-    ensures no { result ≡ false → Share files.now others.now → ⊥ }
-{
-    for file in files {
-        if writes(others, file.as_str()) {
-            return true;
-        }
-    }
-    false
-}
-
-// The first member behind a place that writes a file of the one there.
-fn first_sharing(members: &[Words], place: usize) -> Option<usize>
-    requires within { place < length members.now }
-    ensures { MatchOption result (SharesNone members.now place)
-        (IsFirstSharing members.now place) }
-{
-    for other in place + 1..members.len() {
-        if share(members[place].as_slice(), members[other].as_slice()) {
-            return Some(other);
-        }
-    }
-    None
-}
-
-// The first two members that write one file, by the place of the one and then of the other. It compares each with each.
-fn first_pair(members: &[Words]) -> Option<(usize, usize)>
-    ensures { MatchOption result (NoClash members.now) (IsFirstClash members.now) }
-{
-    for place in 0..members.len() {
-        if let Some(other) = first_sharing(members, place) {
-            return Some((place, other));
-        }
-    }
-    None
 }
 
 /// The first two members that write one file, by the place of the one and then of the other, from the files of each.
-/// Where no two do, each file is looked at once.
+/// Each file is looked at once.
 pub fn find_clash(alloc: Global, members: &[Words]) -> Mem<Option<(usize, usize)>>
     ensures { IfOk result (λ clash.
         MatchOption clash (NoClash members.now) (IsFirstClash members.now)) }
 {
-    if any_repeats(alloc, members)? {
-        Ok(first_pair(members))
-    } else {
-        Ok(None)
+    let mut owners = PathPlaces::new(alloc);
+    let mut first = None;
+    for (place, files) in members.iter().enumerate() {
+        for path in files.as_slice() {
+            let key = key_of(alloc, path.as_str())?;
+            let owner = owners.put(alloc, key.as_str(), place as u64)?;
+            first = first_with(first, owner, place);
+        }
     }
+    Ok(first)
 }

@@ -1,5 +1,5 @@
 // Fleets on a host in memory.
-use crate::{FleetEnd, FleetEnds, Member, run_fleet};
+use crate::{FleetEnd, FleetEnds, Member, find_clash, run_fleet};
 use cc_build::{Build, Error};
 use cc_host::{Bench, BenchHost, Event, Host, LineKind, Role, Script, Status};
 use cc_jobs::OneCaller;
@@ -222,6 +222,28 @@ fn the_first_member_that_shares_a_file_is_named(rt: HostRuntime) -> Result<(), F
     let members = alike(alloc)?;
     let text = refused(&rt, alloc, members.as_slice())?;
     assert_eq!(rt; text.as_str(), "members 1 and 3 write the same file");
+    Ok(())
+}
+
+fn one_file(alloc: Global, path: &str) -> Mem<Words> {
+    let mut files = Words::new(alloc);
+    files.push(path)?;
+    Ok(files)
+}
+
+// Of several clashes the one whose first member comes first, and of its own the one whose second does.
+#[test]
+fn the_first_clash_goes_by_its_members_in_order(rt: HostRuntime) -> Result<(), Fail> {
+    let alloc = rt.alloc();
+    let members = [
+        one_file(alloc, "o/a.o")?,
+        one_file(alloc, "o/b.o")?,
+        one_file(alloc, "o//b.o")?,
+        one_file(alloc, "o/./a.o")?,
+        one_file(alloc, "o/a.o")?,
+    ];
+    let clash = find_clash(alloc, &members)?;
+    assert!(rt; clash == Some((0, 3)));
     Ok(())
 }
 
