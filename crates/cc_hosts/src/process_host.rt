@@ -22,7 +22,7 @@ use cc_host::{
 use cc_text::{Bytes, Mem, NoMemory, Text, Vars, Words};
 use std::alloc::Global;
 use std::env::Env;
-use std::io::{Eprint, Print};
+use std::io::{Eprint, ErrorKind, Print};
 use std::marker::Model;
 use std::process::{OpenProcess, Processes};
 use std::random::RandomSource;
@@ -436,7 +436,10 @@ impl<
                 self.log.note(Event::Here { path });
                 Ok(answer)
             }
-            Err(error) => Err(self.log.fault(HostCall::CurrentDir, why_of(error.kind()))),
+            Err(error) => match error.kind() {
+                ErrorKind::OutOfMemory => Err(HostError::NoMemory),
+                kind => Err(self.log.fault(HostCall::CurrentDir, why_of(kind))),
+            },
         }
     }
 
