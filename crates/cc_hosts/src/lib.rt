@@ -28,6 +28,8 @@ mod replaced;
 mod running;
 mod sink;
 mod standard;
+#[cfg(test)]
+mod tests;
 mod waiting;
 mod watched;
 mod watchers;

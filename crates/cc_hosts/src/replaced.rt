@@ -226,3 +226,50 @@ fn is_fixed(kind: ErrorKind) -> bool {
         _ => false,
     }
 }
+
+#[cfg(test)]
+mod tests {
+    use super::*;
+    use std::alloc::AllocGlobal;
+    use std::env;
+    use std::env::Env;
+    use std::process::{self, Process};
+    use std::test::Fail;
+
+    // A path of a test's own, below the folder for temporary files.
+    fn own_path(rt: &(impl Env + AllocGlobal), id: Process, name: &str) -> Result<String, Fail> {
+        let above = env::temp_dir(rt)?;
+        let (above, id) = (above.as_str(), process::id(id));
+        Ok(format!(in rt.alloc(); "{above}/cc_hosts é {name} {id}")?)
+    }
+
+    #[test]
+    fn a_file_that_an_ended_run_left_is_taken_over(rt: HostRuntime) -> Result<(), Fail> {
+        let path = own_path(&rt, rt.process(), "left")?;
+        let beside = Beside::of(rt.alloc(), path.as_str(), 1)?;
+        fs::write(&rt, beside.same.as_str(), "a part")?;
+        replace(&rt, path.as_str(), &beside, Contents::Bytes(b"whole"))?;
+        assert_eq!(rt; fs::read_to_string(&rt, path.as_str())?.as_str(), "whole");
+        assert!(rt; !fs::exists(&rt, beside.same.as_str())?);
+        fs::remove_file(&rt, path.as_str())?;
+        Ok(())
+    }
+
+    #[test]
+    fn a_copy_is_a_new_file(rt: HostRuntime) -> Result<(), Fail> {
+        let from = own_path(&rt, rt.process(), "from")?;
+        let to = own_path(&rt, rt.process(), "to")?;
+        let also = own_path(&rt, rt.process(), "also")?;
+        fs::write(&rt, from.as_str(), "new")?;
+        fs::write(&rt, to.as_str(), "old")?;
+        fs::hard_link(&rt, to.as_str(), also.as_str())?;
+        let beside = Beside::of(rt.alloc(), to.as_str(), 1)?;
+        replace(&rt, to.as_str(), &beside, copy_of(&rt, from.as_str())?)?;
+        assert_eq!(rt; fs::read_to_string(&rt, to.as_str())?.as_str(), "new");
+        assert_eq!(rt; fs::read_to_string(&rt, also.as_str())?.as_str(), "old");
+        for path in [from, to, also] {
+            fs::remove_file(&rt, path.as_str())?;
+        }
+        Ok(())
+    }
+}

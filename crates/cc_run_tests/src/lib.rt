@@ -25,8 +25,6 @@ mod same;
 #[cfg(test)]
 mod tokens;
 #[cfg(test)]
-mod turns;
-#[cfg(test)]
 mod watch;
 
 pub use log::log_text;
