@@ -11,13 +11,15 @@ use Rattle.cc_command.specs.Answered.{Answered}
 use Rattle.cc_command.specs.Asks.{AsksWords}
 use Rattle.cc_command.specs.Call.{Call, ByVerdicts, course_of}
 use Rattle.cc_command.specs.Promised.{Promised}
-use Rattle.cc_command.specs.Promises.{PrintsLast, FaultsLast}
+use Rattle.cc_command.specs.Promises.{PrintsLast, FaultsLast, UnlessFleet}
 use Rattle.cc_command.specs.Read.{Request, Wish}
-use Rattle.cc_command.specs.Read.Wish.{Compiles, Records, Archives, Generates, Expands, Shows}
+use Rattle.cc_command.specs.Read.Wish.{Compiles, Records, Archives, Generates, Expands, Shows, Fleets}
 use Rattle.cc_command.specs.declared.ended.Ended.{Ended}
 use Rattle.cc_command.specs.declared.words.BadWord.{BadWord}
 use Rattle.cc_command.proofs.ArchivedLaws.{archived_asks, archived_last, archived_faults, archived_settled, archive_promised}
 use Rattle.cc_command.proofs.ExpandedLaws.{expanded_last, expanded_faults, expanded_settled, expand_promises}
+use Rattle.cc_command.proofs.FleetLaws.{fleet_settled, fleet_asks}
+use Rattle.cc_command.proofs.FleetPromised.{fleet_promises}
 use Rattle.cc_command.proofs.PromiseLaws.{begun_of, built_of, request_last, word_last, request_faults, word_faults}
 use Rattle.cc_command.proofs.RecordPromises.{record_promises}
 use Rattle.cc_command.proofs.RecordedLaws.{record_last, record_faults, record_settled}
@@ -56,6 +58,7 @@ module _ (c : Call) (ended : Ended) where
   headline (Ok (Generates count)) a = record { under = λ look agree. (0, tt) }
   headline (Ok (Expands b)) a = record { under = λ look agree. (0, tt) }
   headline (Ok (Shows b)) a = record { under = λ look agree. (0, tt) }
+  headline (Ok (Fleets ms)) a = record { under = λ look agree. (0, tt) }
   headline (Err bad) a = record { under = λ look agree. (0, tt) }
 
   pub all_promised : (words : Result Wish BadWord) → Answered c words ended → Promised c words ended
@@ -73,24 +76,27 @@ module _ (c : Call) (ended : Ended) where
   all_promised (Ok (Generates count)) a = (a.0, sums_promise count c.turns c.part ended a.2)
   all_promised (Ok (Expands b)) a = (a.0, expand_promises c.listens c.steady c.world b c.part ended a.1)
   all_promised (Ok (Shows b)) a = (a.0, show_promises c.listens c.steady c.world b c.part ended a.1)
+  all_promised (Ok (Fleets ms)) a = fleet_promises c ms ended a
   all_promised (Err bad) a = a
 
-  pub prints_last : (words : Result Wish BadWord) → Answered c words ended → PrintsLast c.part ended
+  pub prints_last : (words : Result Wish BadWord) → Answered c words ended → UnlessFleet words (PrintsLast c.part ended)
   prints_last (Ok (Compiles q)) a = let s = some_answer q a in request_last c.listens s.0 q c.part ended s.1 s.2
   prints_last (Ok (Records path q)) a = let s = some_record path q a in record_last c.listens s.0 path q c.part ended s.1 s.2
   prints_last (Ok (Archives q)) a = archived_last c.listens c.steady c.world q c.patience c.turns c.part ended a.1
   prints_last (Ok (Generates count)) a = summed_last count c.turns c.part ended a.2
   prints_last (Ok (Expands b)) a = expanded_last c.listens c.steady c.world b c.part ended a.1
   prints_last (Ok (Shows b)) a = shown_last c.listens c.steady c.world b c.part ended a.1
+  prints_last (Ok (Fleets ms)) a = tt
   prints_last (Err bad) a = word_last bad c.part ended a.1
 
-  pub faults_last : (words : Result Wish BadWord) → Answered c words ended → FaultsLast c.part
+  pub faults_last : (words : Result Wish BadWord) → Answered c words ended → UnlessFleet words (FaultsLast c.part)
   faults_last (Ok (Compiles q)) a = let s = some_answer q a in request_faults c.listens s.0 q c.part s.1 (begun_of c.listens s.0 q c.part ended s.1 s.2)
   faults_last (Ok (Records path q)) a = let s = some_record path q a in record_faults c.listens s.0 path q c.part ended s.1 s.2
   faults_last (Ok (Archives q)) a = archived_faults c.listens c.steady c.world q c.patience c.turns c.part ended a.1
   faults_last (Ok (Generates count)) a = summed_faults count c.turns c.part ended a.2
   faults_last (Ok (Expands b)) a = expanded_faults c.listens c.steady c.world b c.part ended a.1
   faults_last (Ok (Shows b)) a = shown_faults c.listens c.steady c.world b c.part ended a.1
+  faults_last (Ok (Fleets ms)) a = tt
   faults_last (Err bad) a = word_faults bad c.part ended a.1
 
   pub settled : (words : Result Wish BadWord) → Answered c words ended → NothingRuns c.part
@@ -100,6 +106,7 @@ module _ (c : Call) (ended : Ended) where
   settled (Ok (Generates count)) a = summed_settled count c.turns c.part ended a.2
   settled (Ok (Expands b)) a = expanded_settled c.listens c.steady c.world b c.part ended a.1
   settled (Ok (Shows b)) a = shown_settled c.listens c.steady c.world b c.part ended a.1
+  settled (Ok (Fleets ms)) a = fleet_settled c ms ended a
   settled (Err bad) a = word_settled bad c.part ended a.1
 
   pub asks_words : (words : Result Wish BadWord) → Answered c words ended → AsksWords c.steady c.world words c.part
@@ -109,4 +116,5 @@ module _ (c : Call) (ended : Ended) where
   asks_words (Ok (Generates count)) a = a.1
   asks_words (Ok (Expands b)) a = a.1.asks
   asks_words (Ok (Shows b)) a = a.1.asks
+  asks_words (Ok (Fleets ms)) a = fleet_asks c ms ended a
   asks_words (Err bad) a = word_asks bad c.part ended a.1

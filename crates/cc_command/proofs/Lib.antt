@@ -8,6 +8,15 @@ pub mod EntryLaws
 pub mod ExpandedLaws
 pub mod FailingLaws
 pub mod FlagLaws
+pub mod FleetCommands
+pub mod FleetFaults
+pub mod FleetJobLaws
+pub mod FleetLaws
+pub mod FleetLineLaws
+pub mod FleetOrder
+pub mod FleetParts
+pub mod FleetPromised
+pub mod FleetWordLaws
 pub mod GeneratedLaws
 pub mod GeneratedObjects
 pub mod GeneratedRunLaws

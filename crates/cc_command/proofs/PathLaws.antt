@@ -39,6 +39,10 @@ use Rattle.cc_build.specs.Tools.{archiver_error, ranlib_error}
 use Rattle.cc_build.specs.Told.{expand_reads, name_steps}
 use Rattle.cc_build.specs.Went.{Terms, Means, terms, means}
 use Rattle.cc_build.proofs.CauseLaws.{IsPathless, ArePathless, pathless, memory_pathless, of_pathless, run_pathless, halted_pathless, ends_pathless, outcome_pathless, first_pathless, none_pathless, archive_pathless, links_pathless, run_refusal_pathless, unarchived_pathless, tool_pathless, archiver_pathless, ranlib_pathless, unexpanded_pathless}
+use Rattle.cc_fleet.specs.Fleet.{MemberSeen, IsFleet, site}
+use Rattle.cc_fleet.specs.declared.members.FleetEnd.{FleetEnd}
+use Rattle.cc_fleet.specs.declared.members.FleetEnd.TheVariants.{Built, Refused}
+use Rattle.cc_fleet.proofs.PathLaws.{EndPathless, members_pathless, fleet_pathless}
 use Rattle.cc_command.specs.Answer.{AnswersError, AnswersBad, Answers, Untold, Behind, AnswersRecord, asked_for, env_in, terms_in, stages_of, error_of, told}
 use Rattle.cc_command.specs.Archived.{alone, library_at, archive_refused, build_in, wished_stages, wished_refusal, Says, Archived}
 use Rattle.cc_command.specs.Call.{Call, course_of}
@@ -46,11 +50,12 @@ use Rattle.cc_command.specs.Database.{Faults}
 use Rattle.cc_command.specs.Driven.{Drives}
 use Rattle.cc_command.specs.Expanded.{ExpandsSource, ExpandJobEnds, Expanded}
 use Rattle.cc_command.specs.Asks.{AsksWords}
+use Rattle.cc_command.specs.Fleets.{listed_members, refusals, ended_fleet, TellsFleet, SaysFleet, AnswersFleet}
 use Rattle.cc_command.specs.Generated.{gen_build, gen_settings, gen_name, no_variables, gen_course, GeneratedRun}
 use Rattle.cc_command.specs.Lines.{shows}
 use Rattle.cc_command.specs.Promised.{Promised}
 use Rattle.cc_command.specs.Read.{Request, Wish}
-use Rattle.cc_command.specs.Read.Wish.{Compiles, Records, Archives, Generates, Expands, Shows}
+use Rattle.cc_command.specs.Read.Wish.{Compiles, Records, Archives, Generates, Expands, Shows, Fleets}
 use Rattle.cc_command.specs.Shown.{Looks, show_error, show_steps, listed_build, Shown}
 use Rattle.cc_command.specs.Summary.{SumsUp, Generating, Sums}
 use Rattle.cc_command.specs.Generated.{summary}
@@ -249,6 +254,34 @@ sums_never : (count turned : ℕ) (part : List Event) (ended : Ended) → Sums c
 sums_never count turned part ended (inl s) u = says_never s.result s.line (told ended) s.says (generating_pathless count turned s.shown s.result ended.bench s.generating) u
 sums_never count turned part ended (inr n) u = error_never n.error n.line ended n.says (capture_pathless (gen_build count) n.front n.error n.cause) u
 
+-- ---- a fleet
+
+first_refused : (ends : List FleetEnd) → EndPathless ends → (e : ErrorSeen) (es : List ErrorSeen) → refusals ends ≡ e ∷ es → IsPathless e
+first_refused [] h e es is = absurd (cc)
+first_refused (Built ∷ ends) h e es is = first_refused ends h e es is
+first_refused (Refused f ∷ ends) h e es is = let same : f ≡ e = cc in subst IsPathless same h.0
+
+module _ (ended : Ended) where
+  told_never : (ends : List FleetEnd) (lines : List Event) → EndPathless ends → TellsFleet ends lines ended → IsUnlinkable ended → ⊥
+  told_never ends lines h (inl all) u = by_refusals (refusals ends) refl all.0
+    where
+      by_refusals : (es : List ErrorSeen) → refusals ends ≡ es → ended ≡ ended_fleet ends es → ⊥
+      by_refusals [] is told = silent_never ended (ap (λ (v : Ended). v.error) told) u
+      by_refusals (e ∷ es) is told = refused_never ended e (ap (λ (v : Ended). v.error) told) (first_refused ends h e es is) u
+  told_never ends lines h (inr wanting) u = silent_never ended (ap (λ (v : Ended). v.error) wanting.0) u
+
+  fleet_never : (c : Call) (ms : List MemberSeen) → AnswersFleet c ms ended → IsUnlinkable ended → ⊥
+  fleet_never c ms (inl r) u = by_result r.result r.fleet r.says
+    where
+      by_result : (result : Result (List FleetEnd) ErrorSeen) → IsFleet c.steady c.world (listed_members r.vars ms) result r.run (course_of c r.left) → SaysFleet result r.lines ended → ⊥
+      by_result (Ok ends) f says =
+          let k = course_of c r.left in
+          told_never ends r.lines (members_pathless (site c.steady c.world k.patience) k.total (listed_members r.vars ms) r.run k.before k.after ends f) says u
+      by_result (Err e) f says =
+          let k = course_of c r.left in
+          error_never e r.lines ended says (fleet_pathless (site c.steady c.world k.patience) k.total (listed_members r.vars ms) r.run k.before k.after e f) u
+  fleet_never c ms (inr n) u = error_never n.2.error n.2.line ended n.2.says (capture_pathless (gen_build 1) n.2.front n.2.error n.2.cause) u
+
 -- ---- whatever the words ask for
 
 module _ (c : Call) (ended : Ended) where
@@ -269,6 +302,7 @@ module _ (c : Call) (ended : Ended) where
   promised_never (Ok (Generates count)) h asks u = sums_never count c.turns c.part ended h.1.answer u
   promised_never (Ok (Expands b)) h asks u = expanded_never c.listens c.steady c.world b c.part ended h.1.answer u
   promised_never (Ok (Shows b)) h asks u = shown_never c.listens c.steady c.world b c.part ended h.1.answer u
+  promised_never (Ok (Fleets ms)) h asks u = fleet_never ended c ms h.answer u
   promised_never (Err bad) h asks u = bad_never bad h.1 u
 
   -- No words are refused for the path of a library.

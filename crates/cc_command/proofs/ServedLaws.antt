@@ -27,7 +27,7 @@ use Rattle.cc_command.specs.Asks.{AsksFor}
 use Rattle.cc_command.specs.Call.{Call, Counts, KeepsSeat, means_of, course_of}
 use Rattle.cc_command.specs.Jobs.{CompileJob, JobEnds}
 use Rattle.cc_command.specs.Read.{Request, Wish, wish_of}
-use Rattle.cc_command.specs.Read.Wish.{Compiles, Records, Archives, Generates, Expands, Shows}
+use Rattle.cc_command.specs.Read.Wish.{Compiles, Records, Archives, Generates, Expands, Shows, Fleets}
 use Rattle.cc_command.specs.Recording.{IsRecord}
 use Rattle.cc_command.specs.Summary.{Generating}
 use Rattle.cc_command.specs.declared.ended.Ended.{Ended}
@@ -72,6 +72,7 @@ module _ (c : Call) (front line : List Event) (e : ErrorSeen) (ended : Ended) (c
   unlisted_answered (Generates count) = (kept, none_asked, inr (record { error = e; front = front; line = line; cut = cut; cause = cause; says = says }))
   unlisted_answered (Expands b) = (kept, unexpanded c.listens c.steady c.world b front line c.part e ended cut quiet cause says)
   unlisted_answered (Shows b) = (kept, unshown c.listens c.steady c.world b front line c.part e ended cut quiet cause says)
+  unlisted_answered (Fleets ms) = inr (kept, none_asked, record { error = e; front = front; line = line; cut = cut; cause = cause; says = says })
 
 -- words that were not read for want of memory
 pub unread_answered : (c : Call) (words : Result Wish BadWord) (ended : Ended) → c.part ≡ [] → KeepsSeat c → ended ≡ ended_wanting → Answered c words ended

@@ -25,7 +25,8 @@ use Rattle.cc_build.specs.declared.error.ErrorKind.{ErrorKind}
 use Rattle.cc_build.specs.declared.error.ErrorKind.TheVariants.{NoMemory}
 use Rattle.cc_build.specs.Refusal.{refusal_error}
 use Rattle.cc_command.specs.Database.{entries_of, Faults}
-use Rattle.cc_command.specs.Read.{Request, Wish, read}
+use Rattle.cc_command.specs.FleetWords.{asked}
+use Rattle.cc_command.specs.Read.{Request, Wish}
 use Rattle.cc_command.specs.Read.Wish.{Compiles}
 use Rattle.cc_command.specs.declared.words.BadWord.{BadWord}
 use Rattle.cc_command.specs.declared.words.WordCause.{WordCause}
@@ -54,7 +55,7 @@ PrintsLine line part = (part ≡ Printed FaultLine line ∷ []) ⊎ ((why : Why)
 
 -- an end with this status, which tells nothing else
 abbrev pub ended_with : ℕ → Ended
-ended_with status = record { status = status; error = None; word = None; bench = None; graph = None }
+ended_with status = record { status = status; error = None; word = None; bench = None; graph = None; fleet = None }
 
 -- status 0: neither an error nor a word
 abbrev pub ended_well : Ended
@@ -84,7 +85,8 @@ is_wanting _ = false
 -- the line of an error was printed last, or memory for it was wanted
 abbrev pub AnswersError : ErrorSeen → List Event → Ended → Type 0
 AnswersError e part ended =
-    ((ended ≡ ended_refused e) × (is_wanting e.kind ≡ false) × PrintsLine (error_line e) part) ⊎ ((ended ≡ ended_wanting) × (part ≡ []))
+    ((ended ≡ ended_refused e) × (is_wanting e.kind ≡ false) × PrintsLine (error_line e) part)
+    ⊎ ((ended ≡ ended_wanting) × (part ≡ []))
 
 -- the terms of a compile run with these settings, on a host that listens or not
 abbrev pub terms_of : Bool → BuildConfig → EnvSeen → Course → Terms
@@ -114,7 +116,8 @@ warning here = record { warns_of_link = true; here = here }
 abbrev pub repeating : Option (List ℕ) → Writing → Way
 repeating here writing = record { found = warning here; writing = writing; firsts = all_firsts }
 
--- What is left to be found out as it goes: the current folder, which a host that listens is asked for, and what is found out as the library is written.
+-- What is left to be found out as it goes: the current folder, which a host that listens is asked for, and what is
+-- found out as the library is written.
 pub record Findings (listens : Bool) : Type 0 where
   pub here : Option (List ℕ)
   pub hears : Hears listens (warning here)
@@ -122,7 +125,9 @@ pub record Findings (listens : Bool) : Type 0 where
 
 -- The stages of a request: the host lists its variables, then come those of the compile run.
 abbrev pub stages_of : (listens : Bool) → Look → Request → Findings listens → List Event → List Stage
-stages_of listens look request finds part = Calls Lists ∷ planned_stages request.1.config (env_in request part) (repeating finds.here finds.writing) look request.0
+stages_of listens look request finds part =
+    Calls Lists
+    ∷ planned_stages request.1.config (env_in request part) (repeating finds.here finds.writing) look request.0
 
 -- the terms of a request's run
 abbrev pub terms_in : Bool → Request → List Event → Course → Terms
@@ -137,30 +142,41 @@ pub record BuiltBy (listens : Bool) (look : Look) (request : Request) (part : Li
   pub vars : List (List ℕ × List ℕ)
   pub run : List Event
   pub cut : part ≡ Listed vars ∷ run
-  pub built : Built (terms_of listens request.1.config (with_vars request.1.env vars) c) request.1.config (with_vars request.1.env vars) look request.0 run
+  pub built : Built (terms_of listens request.1.config (with_vars request.1.env vars) c) request.1.config
+      (with_vars request.1.env vars) look request.0 run
 
 -- a request that was refused: its first stages were done, and the line of its error was printed last
-pub record Refused (listens : Bool) (look : Look) (request : Request) (part : List Event) (ended : Ended) (c : Course) : Type 0 where
+pub record Refused (listens : Bool) (look : Look) (request : Request) (part : List Event) (ended : Ended)
+    (c : Course) : Type 0 where
   pub error : ErrorSeen
   pub run : List Event
   pub line : List Event
   pub cut : part ≡ run ++ line
   pub printed : PrintsLine (error_line error) line
   pub finds : Findings listens
-  pub refused : Halted (terms_in listens request run c) (error_of look request run) (stages_of listens look request finds run) run error c.before c.after
+  pub refused : Halted (terms_in listens request run c) (error_of look request run)
+      (stages_of listens look request finds run) run error c.before c.after
   pub known : is_wanting error.kind ≡ false
   pub is : ended ≡ ended_refused error
 
 -- a request: it is built by its stages, or refused, or refused with an error that no memory could tell
 abbrev pub Answers : Bool → Look → Request → List Event → Ended → Course → Type 0
 Answers listens look request part ended c =
-    ((ended ≡ ended_well) × (BuiltBy listens look request part c × ((finds : Findings listens) × Went (terms_in listens request part c) (stages_of listens look request finds part) part c.before c.after)))
+    ((ended ≡ ended_well)
+    × (BuiltBy listens look request part c
+    × ((finds : Findings listens)
+    × Went (terms_in listens request part c)
+    (stages_of listens look request finds part) part c.before c.after)))
     ⊎ (Refused listens look request part ended c
-    ⊎ ((ended ≡ ended_wanting) × ((finds : Findings listens) × IsHalted (terms_in listens request part c) (error_of look request part) (stages_of listens look request finds part) part c.before c.after)))
+    ⊎ ((ended ≡ ended_wanting)
+    × ((finds : Findings listens)
+    × IsHalted (terms_in listens request part c) (error_of look request part)
+    (stages_of listens look request finds part) part c.before c.after)))
 
 -- the host listed its variables, and couldn't tell its folder, or memory was wanted
 abbrev pub Untold : List Event → ErrorSeen → Type 0
-Untold part e = (vars : List (List ℕ × List ℕ)) × (rest : List Event) × ((part ≡ Listed vars ∷ rest) × Faults CurrentDir [] rest e)
+Untold part e =
+    (vars : List (List ℕ × List ℕ)) × (rest : List Event) × ((part ≡ Listed vars ∷ rest) × Faults CurrentDir [] rest e)
 
 -- The variables weren't listed, or memory for them was wanted. The line of the error was printed last.
 pub record Unlisted (part : List Event) (ended : Ended) : Type 0 where
@@ -171,7 +187,8 @@ pub record Unlisted (part : List Event) (ended : Ended) : Type 0 where
   pub cause : CaptureEnds front (Err error)
   pub says : AnswersError error line ended
 
--- A run that is to be recorded wasn't begun: its variables weren't listed, or its folder wasn't told. The line of the error was printed last.
+-- A run that is to be recorded wasn't begun: its variables weren't listed, or its folder wasn't told. The line of the
+-- error was printed last.
 pub record Unbegun (part : List Event) (ended : Ended) (c : Course) : Type 0 where
   pub error : ErrorSeen
   pub front : List Event
@@ -197,15 +214,17 @@ pub record Unwritten (path : List ℕ) (rest : List Event) (ended : Ended) : Typ
 -- Behind a run that was done the file of these bytes is written, or couldn't be. Behind a refused one stands nothing.
 abbrev pub Behind : List ℕ → List ℕ → Ended → List Event → Ended → Type 0
 Behind path bytes ran rest ended =
-    ((ran ≡ ended_well) × (WritesLast path bytes rest ended ⊎ Unwritten path rest ended)) ⊎ ((ended ≡ ran) × (rest ≡ []) × (ended ≢ ended_well))
+    ((ran ≡ ended_well) × (WritesLast path bytes rest ended ⊎ Unwritten path rest ended))
+    ⊎ ((ended ≡ ran) × (rest ≡ []) × (ended ≢ ended_well))
 
 -- the database of the sources of a request, with the variables that were listed and the folder that was told
 abbrev pub database_in : Look → Request → List (List ℕ × List ℕ) → List ℕ → List ℕ
 database_in look request vars here = database (entries_of request.1.config (with_vars request.1.env vars) look here)
 
--- A run that is recorded: the host listed its variables and told its folder. The rest answers the request as a run does that isn't recorded, and then
--- comes the file of the database.
-pub record Recorded (listens : Bool) (look : Look) (path : List ℕ) (request : Request) (part : List Event) (ended : Ended) (c : Course) : Type 0 where
+-- A run that is recorded: the host listed its variables and told its folder. The rest answers the request as a run does
+-- that isn't recorded, and then comes the file of the database.
+pub record Recorded (listens : Bool) (look : Look) (path : List ℕ) (request : Request) (part : List Event)
+    (ended : Ended) (c : Course) : Type 0 where
   pub vars : List (List ℕ × List ℕ)
   pub here : List ℕ
   pub run : List Event
@@ -217,11 +236,13 @@ pub record Recorded (listens : Bool) (look : Look) (path : List ℕ) (request : 
 
 -- a request that is to be recorded: its run wasn't begun, or is recorded
 abbrev pub AnswersRecord : Bool → Look → List ℕ → Request → List Event → Ended → Course → Type 0
-AnswersRecord listens look path request part ended c = Unbegun part ended c ⊎ Recorded listens look path request part ended c
+AnswersRecord listens look path request part ended c =
+    Unbegun part ended c ⊎ Recorded listens look path request part ended c
 
 -- bad words: their line alone was printed, or memory for it was wanted
 abbrev pub AnswersBad : BadWord → List Event → Ended → Type 0
-AnswersBad bad part ended = ((ended ≡ ended_bad bad) × PrintsLine (word_line bad) part) ⊎ ((ended ≡ ended_wanting) × (part ≡ []))
+AnswersBad bad part ended =
+    ((ended ≡ ended_bad bad) × PrintsLine (word_line bad) part) ⊎ ((ended ≡ ended_wanting) × (part ≡ []))
 
 -- a fact of a compile run, where the words wish one
 abbrev pub IfCompiles : Result Wish BadWord → (Request → Type 0) → Type 0
@@ -230,7 +251,7 @@ IfCompiles _ fact = Unit {0}
 
 -- what the words ask for, or the first bad one
 abbrev pub asked_for : {Z : Type 0} → List (String Z) → Result Wish BadWord
-asked_for words = read (map string_bytes words)
+asked_for words = asked (map string_bytes words)
 
 -- this answers a compile run
 abbrev pub IsAnswer : Bool → Request → Ended → Look → List Event → Course → Type 0

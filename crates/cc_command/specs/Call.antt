@@ -14,7 +14,8 @@ pub record Counts : Type 0 where
   pub taken : ℕ
   pub load : ℕ
 
--- how its host and its world are, the total of its pool where one caller owns it, its turns, its seat before and behind it, and what it did
+-- how its host and its world are, the total of its pool where one caller owns it, its turns, its seat before and behind
+-- it, and what it did
 pub record Call : Type 0 where
   pub listens : Bool
   pub patience : Option ℕ

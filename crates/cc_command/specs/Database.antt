@@ -24,7 +24,8 @@ entry_of here object cmd = compile_command cmd object.src object.dst here
 
 -- one entry for each source, in the order added
 abbrev pub entries_of : BuildConfig → EnvSeen → Look → List ℕ → List CompileCommandSeen
-entries_of set env look here = map (λ object. entry_of here object (compile_in set env look object)) (objects_of set env)
+entries_of set env look here =
+    map (λ object. entry_of here object (compile_in set env look object)) (objects_of set env)
 
 -- a command that was started to compile
 abbrev pub compile_start : Event → List CommandSeen
@@ -55,4 +56,6 @@ logged_entries here objects log = entries_by here objects (last_of (length objec
 
 -- this call of the host faulted, and the error is about the subject; or memory was wanted
 abbrev pub Faults : HostCall → List ℕ → List Event → ErrorSeen → Type 0
-Faults call subject part e = ((e ≡ no_memory) × (part ≡ [])) ⊎ ((why : Why) × ((part ≡ Fault call why ∷ []) × IsOf (fault_error call why subject) e))
+Faults call subject part e =
+    ((e ≡ no_memory) × (part ≡ []))
+    ⊎ ((why : Why) × ((part ≡ Fault call why ∷ []) × IsOf (fault_error call why subject) e))

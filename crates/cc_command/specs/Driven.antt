@@ -5,14 +5,14 @@ use Rattle.cc_command.specs.Answer.{asked_for}
 use Rattle.cc_command.specs.Asks.{AsksWords}
 use Rattle.cc_command.specs.Call.{Call, ByVerdicts}
 use Rattle.cc_command.specs.Promised.{Promised}
-use Rattle.cc_command.specs.Promises.{Headline, PrintsLast, FaultsLast}
+use Rattle.cc_command.specs.Promises.{Headline, PrintsLast, FaultsLast, UnlessFleet}
 use Rattle.cc_command.specs.declared.ended.Ended.{Ended}
 
 -- the words are answered so by a call
 pub record Drives {Z : Type 0} (c : Call) (words : List (String Z)) (ended : Ended) : Type 0 where
   pub built : ByVerdicts c (Headline c.listens words ended)
   pub promised : Promised c (asked_for words) ended
-  pub printed : PrintsLast c.part ended
-  pub faults_last : FaultsLast c.part
+  pub printed : UnlessFleet (asked_for words) (PrintsLast c.part ended)
+  pub faults_last : UnlessFleet (asked_for words) (FaultsLast c.part)
   pub settled : NothingRuns c.part
   pub asked : AsksWords c.steady c.world (asked_for words) c.part

@@ -34,8 +34,10 @@ use Rattle.cc_command.specs.Archived.{Says}
 use Rattle.cc_command.specs.Shown.{listed_build}
 use Rattle.cc_command.specs.declared.ended.Ended.{Ended}
 
--- the source was expanded, the lines of the variables that were read for it were printed, and then the output of its command, as it is
-pub record PrintsOutput (listens : Bool) (b : BuildSeen) (result : Result (Unit {0}) ErrorSeen) (look : Look) (part : List Event) : Type 0 where
+-- the source was expanded, the lines of the variables that were read for it were printed, and then the output of its
+-- command, as it is
+pub record PrintsOutput (listens : Bool) (b : BuildSeen) (result : Result (Unit {0}) ErrorSeen) (look : Look)
+    (part : List Event) : Type 0 where
   pub output : List ℕ
   pub run : List Event
   pub printed : List Event
@@ -48,16 +50,19 @@ pub record PrintsOutput (listens : Bool) (b : BuildSeen) (result : Result (Unit 
 -- so it was; or the source couldn't be expanded, and the error has its cause
 abbrev pub ExpandsSource : Bool → BuildSeen → Result (Unit {0}) ErrorSeen → Look → List Event → Type 0
 ExpandsSource listens b (Ok done) look part = PrintsOutput listens b (Ok done) look part
-ExpandsSource listens b (Err e) look part = ExpandedEnds b listens (Err e) look part ⊎ PrintsOutput listens b (Err e) look part
+ExpandsSource listens b (Err e) look part =
+    ExpandedEnds b listens (Err e) look part ⊎ PrintsOutput listens b (Err e) look part
 
 -- that, with the questions of the part; no child was started
-pub record Expanding (listens steady : Bool) (world : Question → Verdicts) (b : BuildSeen) (part : List Event) (result : Result (Unit {0}) ErrorSeen) : Type 0 where
+pub record Expanding (listens steady : Bool) (world : Question → Verdicts) (b : BuildSeen) (part : List Event)
+    (result : Result (Unit {0}) ErrorSeen) : Type 0 where
   pub asks : AsksByPlan steady world b part
   pub childless : list_any is_of_children part ≡ false
   pub ends : (look : Look) → Agrees look (answers part) → ExpandsSource listens b result look part
 
 -- the host listed its variables, and the source was expanded with their snapshot
-pub record ListsThenExpands (listens : Bool) (b : BuildSeen) (result : Result (Unit {0}) ErrorSeen) (look : Look) (part : List Event) : Type 0 where
+pub record ListsThenExpands (listens : Bool) (b : BuildSeen) (result : Result (Unit {0}) ErrorSeen) (look : Look)
+    (part : List Event) : Type 0 where
   pub vars : List (List ℕ × List ℕ)
   pub rest : List Event
   pub cut : part ≡ Listed vars ∷ rest
@@ -69,7 +74,8 @@ ExpandJobEnds listens b (Ok done) look part = ListsThenExpands listens b (Ok don
 ExpandJobEnds listens b (Err e) look part = CaptureEnds part (Err e) ⊎ ListsThenExpands listens b (Err e) look part
 
 -- the same with the line behind it
-pub record Expanded (listens steady : Bool) (world : Question → Verdicts) (b : BuildSeen) (part : List Event) (ended : Ended) : Type 0 where
+pub record Expanded (listens steady : Bool) (world : Question → Verdicts) (b : BuildSeen) (part : List Event)
+    (ended : Ended) : Type 0 where
   pub asks : AsksByPlan steady world (listed_build b part) part
   pub run : List Event
   pub line : List Event
@@ -91,9 +97,9 @@ expansion_in b look = expansion b.config (tool_of b.config b.env look)
 abbrev pub ignored_in : BuildSeen → Look → Option (List ℕ)
 ignored_in b look = ignored_line (tool_of b.config b.env look).family (source_of b.config)
 
--- Nothing is refused. The host listed its variables, questions were asked and the warnings of the compiler's plan were printed; then the planned command
--- ended with 0, among the lines of its run; then a line was printed for each variable that was read; and then the command's output, as it is. No other
--- command was run.
+-- Nothing is refused. The host listed its variables, questions were asked and the warnings of the compiler's plan were
+-- printed; then the planned command ended with 0, among the lines of its run; then a line was printed for each variable
+-- that was read; and then the command's output, as it is. No other command was run.
 pub record IsExpanded (listens : Bool) (b : BuildSeen) (look : Look) (part : List Event) : Type 0 where
   pub accepted : expand_error b look ≡ None
   pub vars : List (List ℕ × List ℕ)
@@ -106,7 +112,8 @@ pub record IsExpanded (listens : Bool) (b : BuildSeen) (look : Look) (part : Lis
   pub warned : IsWhole (tool_steps b.config b.env listens warns_of_link look) asking
   pub status : Status
   pub success : is_success status ≡ true
-  pub ran : IsRanTo (shows_of b.config b.env listens) (expansion_in b look) Capture true (ignored_in b look) status output run
+  pub ran : IsRanTo (shows_of b.config b.env listens) (expansion_in b look) Capture true
+      (ignored_in b look) status output run
   pub told : IsWhole (name_steps expand_reads b.config b.env all_firsts look) telling
   pub alone : attempts part ≡ to_attempt (expansion_in b look) ∷ []
 
@@ -119,12 +126,15 @@ abbrev pub IsSole : Planned → List Event → Type 0
 IsSole p part = FirstOf (p ∷ []) part
 
 -- What expanding a source promises of its answer and its part.
-pub record ExpandPromises (listens steady : Bool) (world : Question → Verdicts) (b : BuildSeen) (part : List Event) (ended : Ended) : Type 0 where
+pub record ExpandPromises (listens steady : Bool) (world : Question → Verdicts) (b : BuildSeen) (part : List Event)
+    (ended : Ended) : Type 0 where
   -- the whole answer: each status with its cause
   pub answer : Expanded listens steady world b part ended
   -- status 0: the source was expanded, and what its command made of it was printed, behind the lines of the variables
-  pub expanded : ended.status ≡ 0 → (look : Look) → Agrees look (answers part) → IsExpanded listens (listed_build b part) look part
+  pub expanded : ended.status ≡ 0 → (look : Look) → Agrees look (answers part)
+      → IsExpanded listens (listed_build b part) look part
   -- no command but the planned one, and that at most once
   pub sole : (look : Look) → Agrees look (answers part) → IsSole (expansion_in (listed_build b part) look) part
   -- where nothing is refused, the command didn't fail, and no call of the host did: it is done, or memory was wanted
-  pub complete : (look : Look) → Agrees look (answers part) → expand_error (listed_build b part) look ≡ None → (IsFailed part → ⊥) → (HasFault part → ⊥) → (ended ≡ ended_well) ⊎ (ended ≡ ended_wanting)
+  pub complete : (look : Look) → Agrees look (answers part) → expand_error (listed_build b part) look ≡ None
+      → (IsFailed part → ⊥) → (HasFault part → ⊥) → (ended ≡ ended_well) ⊎ (ended ≡ ended_wanting)

@@ -62,7 +62,8 @@ gen_course turns left taken load = course (Some 4) (Some 1) (means turns 0 0 0) 
 -- a fact of a log and its course, whichever verdicts agree with its answers
 abbrev pub OnGenerated : ℕ → List Event → (Look → List Event → Course → Type 0) → Type 0
 OnGenerated turns log fact =
-    Holds (answers log) (λ look. (left : ℕ) × (taken : ℕ) × (load : ℕ) × fact look log (gen_course turns left taken load))
+    Holds (answers log)
+    (λ look. (left : ℕ) × (taken : ℕ) × (load : ℕ) × fact look log (gen_course turns left taken load))
 
 -- What a run of this build comes to, over a host on which nothing is set.
 pub record PlainRun (b : BuildSeen) (turns : ℕ) (log : List Event) (result : Result (Unit {0}) ErrorSeen) : Type 0 where
@@ -94,7 +95,8 @@ counted_line name count = name ++ codes " " ++ decimal count ++ 10 ∷ []
 -- five numbers, each with its name
 abbrev pub counted_lines : ℕ → ℕ → ℕ → ℕ → ℕ → List (List ℕ)
 counted_lines sources compiles archives indexes links =
-    counted_line (codes "sources") sources ∷ counted_line (codes "compiles") compiles ∷ counted_line (codes "archives") archives
+    counted_line (codes "sources") sources ∷ counted_line (codes "compiles") compiles
+    ∷ counted_line (codes "archives") archives
     ∷ counted_line (codes "indexes") indexes ∷ counted_line (codes "links") links ∷ []
 
 -- the lines that sum up a run that is done: its sources, and the commands and the link lines that they come to

@@ -91,11 +91,19 @@ no_graph_error path = record { kind = InvalidArgument; subject = path; message =
 
 abbrev pub need_error : List ℕ → ℕ → ℕ → ErrorSeen
 need_error path node need =
-    record { kind = InvalidArgument; subject = path; message = codes "node " ++ decimal node ++ codes " needs " ++ decimal need }
+    record {
+      kind = InvalidArgument;
+      subject = path;
+      message = codes "node " ++ decimal node ++ codes " needs " ++ decimal need;
+    }
 
 abbrev pub cycle_error : List ℕ → List ℕ → ErrorSeen
 cycle_error path places =
-    record { kind = InvalidArgument; subject = path; message = codes "cycle" ++ flat_map (λ p. codes " " ++ decimal p) places }
+    record {
+      kind = InvalidArgument;
+      subject = path;
+      message = codes "cycle" ++ flat_map (λ p. codes " " ++ decimal p) places;
+    }
 
 -- the error of commands from a file that were not run to their ends
 abbrev pub graph_error : List ℕ → List Node → GraphError → ErrorSeen
@@ -324,8 +332,8 @@ AnswersGraph listens (Err bad) old new ended part c = AnswersBad bad part ended 
 
 -- ---- what follows
 
--- The ends are told: the commands are those that the one read gave, they were run to these ends, a line was printed for each, and the answer says whether
--- one of them failed.
+-- The ends are told: the commands are those that the one read gave, they were run to these ends, a line was printed for
+-- each, and the answer says whether one of them failed.
 pub record ToldGraph (listens : Bool) (path : List ℕ) (old new : Shelf) (ends : List NodeEnd) (ended : Ended)
     (part : List Event) (c : Course) : Type 0 where
   pub vars : List (List ℕ × List ℕ)
@@ -352,7 +360,8 @@ IfFile (Err bad) fact = Unit {0}
 abbrev pub ungraphed : Ended → Ended
 ungraphed ended = record ended { graph = None }
 
--- What a call for these words promises of its answer, its part and its course, with what is seen of its files before and behind it.
+-- What a call for these words promises of its answer, its part and its course, with what is seen of its files before
+-- and behind it.
 pub record GraphPromises (listens : Bool) (words : Result (List ℕ) BadWord) (old new : Shelf) (ended : Ended)
     (part : List Event) (c : Course) : Type 0 where
   -- the whole answer: each status with its cause, and what was done and read on every exit

@@ -7,6 +7,9 @@ pub mod Database
 pub mod Driven
 pub mod Expanded
 pub mod Failing
+pub mod FleetRules
+pub mod FleetWords
+pub mod Fleets
 pub mod Generated
 pub mod Graphed
 pub mod Jobs

@@ -1,5 +1,5 @@
--- What the words of the program ask for: `compile NAME key=value ...`, `archive NAME key=value ...`, `generate N`, or `expand` or `show` with
--- `key=value ...`.
+-- What the words of the program ask for: `compile NAME key=value ...`, `archive NAME key=value ...`, `generate N`, or
+-- `expand` or `show` with `key=value ...`. Those of a fleet are read by `FleetWords`.
 use Rattle.std.specs.Prelude.{◌≡◌, ℕ, ◌+◌, ◌^◌, List, [], ◌∷◌, ◌++◌, Bool, true, false, ◌&&◌, ◌||◌, fold, map, Option, Some, None, Result, Ok, Err, is_some, nat_eq, nat_lt, codes, bytes_eq, unwrap_or, if◌then◌else◌}
 use Prim.Native.String.{String}
 use Rattle.std.specs.Fmt.{decimal}
@@ -12,6 +12,7 @@ use Rattle.cc_flags.specs.declared.build_flags.BuildFlag.{BuildFlag}
 use Rattle.cc_flags.specs.declared.build_flags.BuildFlag.TheVariants.{Always, IfSupported}
 use Rattle.cc_flags.specs.declared.build_flags.Definition.{Definition}
 use Rattle.cc_build.specs.Build.{BuildSeen}
+use Rattle.cc_fleet.specs.Fleet.{MemberSeen}
 use Rattle.cc_command.specs.declared.words.BadWord.{BadWord}
 use Rattle.cc_command.specs.declared.words.WordCause.{WordCause}
 use Rattle.cc_command.specs.declared.words.WordCause.TheVariants.{NoCommand, UnknownCommand, NoName, NoValue, UnknownKey, BadValue}
@@ -48,19 +49,22 @@ IsTruthOf text (Some on) = (is_truth text ≡ true) × (on ≡ is text "true")
 -- a key whose value is one text
 unfoldable pub is_text_key : List ℕ → Bool
 is_text_key key =
-    is key "source_root" || is key "std" || is key "target" || is key "host" || is key "opt_level_str" || is key "debug_str" || is key "out_dir"
+    is key "source_root" || is key "std" || is key "target" || is key "host" || is key "opt_level_str"
+    || is key "debug_str" || is key "out_dir"
     || is key "compiler" || is key "archiver" || is key "ranlib" || is key "cpp_set_stdlib" || is key "cpp_link_stdlib"
 
 -- a key whose values are kept one after another
 unfoldable pub is_item_key : List ℕ → Bool
 is_item_key key =
-    is key "file" || is key "object" || is key "include" || is key "ar_flag" || is key "asm_flag" || is key "link_lib_modifier" || is key "flag"
+    is key "file" || is key "object" || is key "include" || is key "ar_flag" || is key "asm_flag"
+    || is key "link_lib_modifier" || is key "flag"
     || is key "flag_if_supported" || is key "remove_flag" || is key "define"
 
 -- a key of a setting that is on or off, or unset
 unfoldable pub is_choice_key : List ℕ → Bool
 is_choice_key key =
-    is key "shared_flag" || is key "static_flag" || is key "warnings" || is key "extra_warnings" || is key "pic" || is key "use_plt"
+    is key "shared_flag" || is key "static_flag" || is key "warnings" || is key "extra_warnings" || is key "pic"
+    || is key "use_plt"
     || is key "static_crt" || is key "shell_escaped_flags" || is key "force_frame_pointer" || is key "cargo_debug"
 
 -- a key of a setting that is on or off
@@ -123,7 +127,8 @@ values test words = flat_map (λ word. pair_value test (key_and_value word)) wor
 -- what a key of the level sets: a number in its decimal form, a text as it stands
 abbrev pub level_value : List ℕ → List ℕ → List (List ℕ)
 level_value key value =
-    if is key "opt_level" then map decimal (option_to_list (level_of value)) else (if is key "opt_level_str" then value ∷ [] else [])
+    if is key "opt_level" then map decimal (option_to_list (level_of value))
+    else (if is key "opt_level_str" then value ∷ [] else [])
 
 abbrev pub pair_level : Option (List ℕ × List ℕ) → List (List ℕ)
 pair_level None = []
@@ -250,8 +255,8 @@ settings_of words = record {
 abbrev pub Request : Type 0
 Request = List ℕ × BuildSeen
 
--- what is wished: a compile run, one that is recorded in a database at a path, an archive alone, a large run of so many sources, that the source of a
--- build is expanded, or that its tools are shown
+-- what is wished: a compile run, one that is recorded in a database at a path, an archive alone, a large run of so many
+-- sources, that the source of a build is expanded, that its tools are shown, or that these members are built as a fleet
 pub data Wish : Type 0 where
   Compiles : Request → Wish
   Records : List ℕ → Request → Wish
@@ -259,6 +264,7 @@ pub data Wish : Type 0 where
   Generates : ℕ → Wish
   Expands : BuildSeen → Wish
   Shows : BuildSeen → Wish
+  Fleets : List MemberSeen → Wish
 
 abbrev pub read_settings : (Request → Wish) → List ℕ → List (List ℕ) → Option BadWord → Result Wish BadWord
 read_settings wish name words (Some bad) = Err bad
@@ -291,7 +297,9 @@ wish_by command database request = if is command "compile" then compile_wish dat
 -- the wish of a command with its name and settings, or the first bad word
 abbrev pub read_named : List ℕ → List ℕ → List (List ℕ) → Result Wish BadWord
 read_named command name words =
-    if takes_name command then read_settings (wish_by command (database_of words)) name words (first_bad (is command "compile") 2 words)
+    if takes_name command
+    then read_settings (wish_by command (database_of words)) name words
+    (first_bad (is command "compile") 2 words)
     else Err (bad_at 0 UnknownCommand)
 
 -- the decimal form of a number from 1 to 10000
@@ -326,7 +334,8 @@ unless_further count None = Ok (Wish.Generates count)
 
 -- a large run of this number of sources, or the first bad word
 abbrev pub read_count : List ℕ → List (List ℕ) → Result Wish BadWord
-read_count number words = if is_count number then unless_further (digits_value 10 number) (further words) else Err (bad_at 1 BadValue)
+read_count number words =
+    if is_count number then unless_further (digits_value 10 number) (further words) else Err (bad_at 1 BadValue)
 
 -- by the command, whether it takes a number or a name
 abbrev pub read_argued : List ℕ → List ℕ → List (List ℕ) → Result Wish BadWord
@@ -348,7 +357,8 @@ read_build wish words = build_unless wish words (first_bad false 1 words)
 -- a command that takes settings alone, or one that takes a word before them
 abbrev pub read_command : List ℕ → List (List ℕ) → Result Wish BadWord
 read_command command words =
-    if is command "show" then read_build Wish.Shows words else if is command "expand" then read_build Wish.Expands words else read_further command words
+    if is command "show" then read_build Wish.Shows words
+    else if is command "expand" then read_build Wish.Expands words else read_further command words
 
 -- what is wished, or the first bad word
 abbrev pub read : List (List ℕ) → Result Wish BadWord
@@ -378,7 +388,9 @@ wish_of Show database build = Wish.Shows build
 -- the command takes a name, and a job for the library of this name does what it wishes
 abbrev pub IsJobOf : List ℕ → List ℕ → Job → Type 0
 IsJobOf command name job =
-    (takes_name command ≡ true) × ((database : Option (List ℕ)) (build : BuildSeen) → wish_of job database build ≡ wish_by command database (name, build))
+    (takes_name command ≡ true)
+    × ((database : Option (List ℕ)) (build : BuildSeen)
+    → wish_of job database build ≡ wish_by command database (name, build))
 
 abbrev pub refusal_of : Result Wish BadWord → Option ReadError
 refusal_of (Ok wish) = None

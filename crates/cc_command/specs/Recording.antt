@@ -17,12 +17,14 @@ WritesOrFaults path bytes rest (Ok done) = rest ≡ Wrote path bytes ∷ []
 WritesOrFaults path bytes rest (Err e) = Faults Write path rest e
 
 -- behind a refused run stands nothing
-abbrev pub EndsBehind : List ℕ → List ℕ → Result (Unit {0}) ErrorSeen → List Event → Result (Unit {0}) ErrorSeen → Type 0
+abbrev pub EndsBehind : List ℕ → List ℕ → Result (Unit {0}) ErrorSeen → List Event → Result (Unit {0}) ErrorSeen
+    → Type 0
 EndsBehind path bytes (Ok done) rest result = WritesOrFaults path bytes rest result
 EndsBehind path bytes (Err e) rest result = (result ≡ Err e) × (rest ≡ [])
 
 -- the host told its folder, the library was built or the run refused, and then comes the file of the database
-pub record Between (listens : Bool) (b : BuildSeen) (output path : List ℕ) (result : Result (Unit {0}) ErrorSeen) (look : Look) (part : List Event) (c : Course) : Type 0 where
+pub record Between (listens : Bool) (b : BuildSeen) (output path : List ℕ) (result : Result (Unit {0}) ErrorSeen)
+    (look : Look) (part : List Event) (c : Course) : Type 0 where
   pub here : List ℕ
   pub run : List Event
   pub rest : List Event
@@ -33,6 +35,8 @@ pub record Between (listens : Bool) (b : BuildSeen) (output path : List ℕ) (re
   pub behind : EndsBehind path (database (entries_of b.config b.env look here)) ran rest result
 
 -- the host couldn't tell its folder, or memory was wanted; else it went so
-abbrev pub IsRecord : Bool → List ℕ → List ℕ → BuildSeen → Result (Unit {0}) ErrorSeen → Look → List Event → Course → Type 0
+abbrev pub IsRecord : Bool → List ℕ → List ℕ → BuildSeen → Result (Unit {0}) ErrorSeen → Look → List Event → Course
+    → Type 0
 IsRecord listens output path b result look part c =
-    ((e : ErrorSeen) × ((result ≡ Err e) × Faults CurrentDir [] part e × (c.after ≡ c.before))) ⊎ Between listens b output path result look part c
+    ((e : ErrorSeen) × ((result ≡ Err e) × Faults CurrentDir [] part e × (c.after ≡ c.before)))
+    ⊎ Between listens b output path result look part c

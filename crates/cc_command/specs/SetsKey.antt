@@ -22,7 +22,8 @@ SetsLevel old new value cause =
 
 -- the same, where a database may be asked for or not; its key sets nothing
 abbrev pub SetsAmong : Bool → BuildSeen → BuildSeen → List ℕ → List ℕ → Option WordCause → Type 0
-SetsAmong recorded old new key value cause = (cause ≡ cause_among recorded key value) × (cause ≡ None → new ≡ with_key old key value)
+SetsAmong recorded old new key value cause =
+    (cause ≡ cause_among recorded key value) × (cause ≡ None → new ≡ with_key old key value)
 
 -- This is wrong with the word, or nothing is, and it is set.
 abbrev pub SetsWord : Bool → BuildSeen → BuildSeen → List ℕ → Option WordCause → Type 0

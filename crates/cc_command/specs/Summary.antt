@@ -45,17 +45,20 @@ number test xs = length (filter test xs)
 -- the lines that sum up a run of so many sources, by its log
 unfoldable pub log_lines : ℕ → List Event → List (List ℕ)
 log_lines count log =
-    counted_lines count (number (counts (Commands Compile)) log) (number (counts (Commands Archive)) log) (number (counts (Commands Index)) log) (number (counts Links) log)
+    counted_lines count (number (counts (Commands Compile)) log) (number (counts (Commands Archive)) log)
+    (number (counts (Commands Index)) log) (number (counts Links) log)
 
 -- a run that is done is summed up: its lines are printed, or the error has its cause; that of another run is kept
 abbrev pub SumsUp : List (List ℕ) → Result (Unit {0}) ErrorSeen → List Event → Result (Unit {0}) ErrorSeen → Type 0
 SumsUp lines (Ok done) part result = CallsEnd (shows lines) part result
 SumsUp lines (Err e) part result = (result ≡ Err e) × (part ≡ [])
 
--- So many sources were compiled on a host in memory, which is handed back, and then the run was summed up; or memory was wanted before the run.
+-- So many sources were compiled on a host in memory, which is handed back, and then the run was summed up; or memory
+-- was wanted before the run.
 abbrev pub Generating : ℕ → ℕ → List Event → Result (Unit {0}) ErrorSeen → Option BenchSeen → Type 0
 Generating count turned part result (Some bench) =
-    (run : Result (Unit {0}) ErrorSeen) × (GeneratedRun count turned bench.log run × SumsUp (summary count) run part result)
+    (run : Result (Unit {0}) ErrorSeen)
+    × (GeneratedRun count turned bench.log run × SumsUp (summary count) run part result)
 Generating count turned part result None = (result ≡ Err no_memory) × (part ≡ [])
 
 -- the host listed its variables, so the job was done, and the line of an error is printed last
@@ -72,13 +75,16 @@ pub record Summed (count turned : ℕ) (part : List Event) (ended : Ended) : Typ
 abbrev pub Sums : ℕ → ℕ → List Event → Ended → Type 0
 Sums count turned part ended = Summed count turned part ended ⊎ Unlisted part ended
 
--- Over the whole log of the host that is handed back, which was empty before it, the library of so many sources is built. On the other host the variables
--- were listed, exactly the lines that sum the run up were printed, and nothing else was done.
+-- Over the whole log of the host that is handed back, which was empty before it, the library of so many sources is
+-- built. On the other host the variables were listed, exactly the lines that sum the run up were printed, and nothing
+-- else was done.
 pub record BuiltAlone (count turned : ℕ) (part : List Event) (ended : Ended) : Type 0 where
   pub bench : BenchSeen
   pub back : ended.bench ≡ Some bench
   pub run : GeneratedRun count turned bench.log (Ok tt)
-  pub built : OnGenerated turned bench.log (λ look log c. Built (terms_for (gen_build count) false c) (gen_settings count) no_variables look gen_name log)
+  pub built : OnGenerated turned bench.log
+      (λ look log c. Built (terms_for (gen_build count) false c)
+      (gen_settings count) no_variables look gen_name log)
   pub vars : List (List ℕ × List ℕ)
   pub shown : part ≡ Listed vars ∷ map (Printed Shown) (summary count)
 

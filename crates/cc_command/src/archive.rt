@@ -10,7 +10,8 @@ use cc_host::{Host, World};
 use cc_text::Words;
 use std::sync::Wait;
 
-/// Archives the added objects of a request alone into its library, and prints how Cargo links it. At most `turns` turns are made.
+/// Archives the added objects of a request alone into its library, and prints how Cargo links it. At most `turns` turns
+/// are made.
 #[tactic(auto, using(cc_host::proofs::Parts::since_append))]
 pub(crate) fn archive<W: World, H: Host<W>>(
     rt: &impl Wait,

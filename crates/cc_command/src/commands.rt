@@ -1,6 +1,5 @@
 // Reads the words of the program.
 ghost use Rattle.std.specs.Prelude.{◌≡◌, ◌⊎◌, [], ◌∷◌, Ok, Some, map, true, false, IfOk, IfErr, OnOk, string_bytes};
-ghost use Rattle.cc_command.specs.Answer.{asked_for};
 ghost use Rattle.cc_command.specs.Read.{bad_at, bad_word, IsJobOf, IsCountOf, taken, takes_name, is, is_command, read, read_named, read_count, read_argued, read_further, read_build, further, further_cause, wish_of, refusal_of};
 ghost use Rattle.cc_command.specs.Read.Wish.{Expands, Shows};
 ghost use Rattle.cc_command.specs.declared.words.ReadError.TheVariants.{Bad, NoMemory as WantsMemory};
@@ -245,18 +244,21 @@ fn read_command<W: World>(
     }
 }
 
-/// Reads the words behind the program's own name: `compile NAME key=value ...` or `archive NAME key=value ...`, where a word ends its key at
-/// its first `=`, `generate N`, or `expand` or `show` with `key=value ...`. A list setting takes the values of its key in order, a single one the last; a large
-/// run takes a number from 1 to 10000 and no setting. The key `database`, which `compile` alone takes, is the path of a compilation database.
+/// Reads the words behind the program's own name: `compile NAME key=value ...` or `archive NAME key=value ...`, where a
+/// word ends its key at its first `=`, `generate N`, or `expand` or `show` with `key=value ...`. A list setting takes
+/// the values of its key in order, a single one the last; a large run takes a number from 1 to 10000 and no setting.
+/// The key `database`, which `compile` alone takes, is the path of a compilation database. A fleet's words ask for
+/// several builds, so that `fleet` is no command here.
 ///
-/// Refused at the first bad word, with its place from 0 and the first cause that holds; and for memory. Nothing is left then, and no host
-/// was asked anything.
+/// Refused at the first bad word, with its place from 0 and the first cause that holds; and for memory. Nothing is left
+/// then, and no host was asked anything.
 pub fn read_words<W: World>(alloc: Global, words: &[String]) -> Result<Request<W>, ReadError>
     ensures ok { IfOk result
-        (λ request. asked_for words.now ≡ Ok (wish_of request.job request.database request.build)) }
+        (λ request. read (map string_bytes words.now)
+        ≡ Ok (wish_of request.job request.database request.build)) }
     ensures repeats { IfOk result (λ request. request.build.config.repeat_lines ≡ true) }
     ensures refused { IfErr result
-        (λ e. (e ≡ WantsMemory) ⊎ (refusal_of (asked_for words.now) ≡ Some e)) }
+        (λ e. (e ≡ WantsMemory) ⊎ (refusal_of (read (map string_bytes words.now)) ≡ Some e)) }
 {
     match words {
         [] => Err(bad(0, WordCause::NoCommand)),

@@ -1,4 +1,5 @@
-// The compilation database of a compile run: the folder that it tells is asked for, its text is made of the log, and its file is written.
+// The compilation database of a compile run: the folder that it tells is asked for, its text is made of the log, and
+// its file is written.
 ghost use Rattle.std.specs.Prelude.{◌≡◌, ◌++◌, [], ◌∷◌, map, slice_get, string_bytes, IfOk, IfErr, OnOk};
 ghost use Rattle.std.specs.Option.{option_copied};
 ghost use Rattle.cc_db.specs.Database.{database};

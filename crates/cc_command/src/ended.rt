@@ -7,24 +7,32 @@ ghost use Rattle.cc_command.specs.Answer.{PrintsLine, AnswersError, AnswersBad, 
 
 use crate::words::{BadWord, WordCause};
 use cc_build::{Error, ErrorKind};
+use cc_fleet::FleetEnds;
 use cc_graph::NodeEnds;
 use cc_host::{BenchHost, Host, HostError, LineKind, World};
 use cc_text::{Mem, NoMemory, Text};
 use std::alloc::{AllocError, Global};
 
-/// What a run answers: its status, with 1 the error, with 2 the bad word, the host of a large run from a number, and the ends of a graph.
+/// What a run answers: its status, with 1 the error, with 2 the bad word, the host of a large run from a number, and
+/// the ends of a graph or of a fleet.
 #[derive(Drop)]
 pub struct Ended {
     /// The exit status for a program: 0 done, 1 refused by the build, 2 words refused, 3 want of memory.
     pub status: u8,
-    /// Why the build was refused, with status 1 alone. Its line was printed, unless the print failed.
+    /// Why the build was refused, with status 1 alone; of a fleet it is why its first refused member was. Its line was
+    /// printed, unless the print failed.
     pub error: Option<Error>,
     /// The first bad word, with status 2 alone. Its line was printed, unless the print failed.
     pub word: Option<BadWord>,
-    /// The host in memory that `generate N` ran on, with the log of that run; none where it didn't run, and of any other job.
+    /// The host in memory that `generate N` ran on, with the log of that run; none where it didn't run, and of any
+    /// other job.
     pub bench: Option<BenchHost>,
-    /// What became of each command of `graph FILE`, by place; none where they weren't run to their ends, and of any other job.
+    /// What became of each command of `graph FILE`, by place; none where they weren't run to their ends, and of any
+    /// other job.
     pub graph: Option<NodeEnds>,
+    /// What became of each member of a fleet, by place; none where the fleet was refused as a whole, and of any other
+    /// job.
+    pub fleet: Option<FleetEnds>,
 }
 
 // An end with this status, which tells nothing else.
@@ -37,6 +45,7 @@ pub(crate) fn ended_with(status: u8) -> Ended
         word: None,
         bench: None,
         graph: None,
+        fleet: None,
     }
 }
 
@@ -135,7 +144,11 @@ fn is_wanting(kind: ErrorKind) -> bool
 
 // Prints the line of an error, but for want of memory, which has none.
 #[tactic(auto, using(cc_host::proofs::Parts::since_append))]
-fn print_error<W: World, H: Host<W>>(alloc: Global, host: &mut H, error: &Error) -> Mem<()>
+pub(crate) fn print_error<W: World, H: Host<W>>(
+    alloc: Global,
+    host: &mut H,
+    error: &Error,
+) -> Mem<()>
     ensures extends { H.log host.new ≡ H.log host.old ++ part H.log host.old host.new }
     ensures asks_none { question_events (part H.log host.old host.new) ≡ [] }
     ensures kind { OnOk result (is_wanting error.now.kind ≡ false) }

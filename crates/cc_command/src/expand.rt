@@ -9,7 +9,8 @@ use cc_host::{Host, LineKind, World};
 use std::alloc::Global;
 use std::sync::Wait;
 
-/// Expands the source of a build, and prints what the compiler made of it, as it is, behind the lines of the variables that were read for it.
+/// Expands the source of a build, and prints what the compiler made of it, as it is, behind the lines of the variables
+/// that were read for it.
 #[tactic(auto, using(cc_host::proofs::Parts::since_append))]
 pub(crate) fn expand<W: World, H: Host<W>>(
     rt: &impl Wait,

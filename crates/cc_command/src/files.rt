@@ -14,18 +14,20 @@ use cc_jobs::Jobs;
 use std::alloc::Global;
 use std::sync::Wait;
 
-/// Does what `drive` does, and one thing more, for which a file is read: `graph FILE` runs commands with prerequisites. Words that begin
-/// otherwise are `drive`'s, with all that it promises, and no file is read for them.
+/// Does what `drive` does, and one thing more, for which a file is read: `graph FILE` runs commands with prerequisites.
+/// Words that begin otherwise are `drive`'s, with all that it promises, and no file is read for them.
 ///
-/// `graph FILE` reads the file once, behind the listing of the host's variables: a JSON array of objects, each with its program and words
-/// under `command` and the places of the commands that it needs under `needs`. Each command is started once those ended with 0, under a
-/// token, as many beside each other as there are tokens, the least place first; one of which a need was skipped or ended with another
-/// status is skipped. Then a line of kind Shown is printed for each: its place and its status, `ended without a status` or `skipped`.
+/// `graph FILE` reads the file once, behind the listing of the host's variables: a JSON array of objects, each with its
+/// program and words under `command` and the places of the commands that it needs under `needs`. Each command is
+/// started once those ended with 0, under a token, as many beside each other as there are tokens, the least place
+/// first; one of which a need was skipped or ended with another status is skipped. Then a line of kind Shown is printed
+/// for each: its place and its status, `ended without a status` or `skipped`.
 ///
-/// Status 0 means that each ended with 0, and status 1 with the ends in `graph` that one failed: the error is that of the one whose failing
-/// end stands last. Status 1 without them has another cause, with its error: an absent file, or one that says no commands, needs that are no
-/// places, or a cycle (InvalidArgument); a read that failed, or a call of the host (IOError); or what ends a run at once, as a program that is
-/// missing, or want of turns. Status 2: no FILE, or a word behind it. The line of the error or of the word is printed last.
+/// Status 0 means that each ended with 0, and status 1 with the ends in `graph` that one failed: the error is that of
+/// the one whose failing end stands last. Status 1 without them has another cause, with its error: an absent file, or
+/// one that says no commands, needs that are no places, or a cycle (InvalidArgument); a read that failed, or a call of
+/// the host (IOError); or what ends a run at once, as a program that is missing, or want of turns. Status 2: no FILE,
+/// or a word behind it. The line of the error or of the word is printed last.
 ///
 /// After each answer the seat holds nothing, and no command that was started runs.
 pub fn drive_files<W: World, H: Host<W>, J: Jobs, F: Files>(

@@ -125,11 +125,12 @@ fn fill_and_run(
     Ok(generated)
 }
 
-/// Compiles so many generated sources (`src/f0.c` and so on) into the library `gen`, on a host in memory of its own and with four tokens:
-/// no file is read or written, and no process started. At most `turns` turns are made; two for each source and two more are enough.
+/// Compiles so many generated sources (`src/f0.c` and so on) into the library `gen`, on a host in memory of its own and
+/// with four tokens: no file is read or written, and no process started. At most `turns` turns are made; two for each
+/// source and two more are enough.
 ///
-/// Answers the host with its log, and how the run ended. With turns enough it is done, unless memory was wanted. The call itself is
-/// refused where memory is wanted before the run.
+/// Answers the host with its log, and how the run ended. With turns enough it is done, unless memory was wanted. The
+/// call itself is refused where memory is wanted before the run.
 pub fn generate(rt: &impl Wait, alloc: Global, count: u32, turns: u64) -> Mem<Generated>
     ensures ran { IfOk result (λ g. GeneratedRun count turns g.bench.log g.result) }
 {

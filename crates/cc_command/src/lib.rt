@@ -1,9 +1,11 @@
-//! The top call: words ask for a compile run, an archive alone, a large run from a number, an expanded source, or the tools of a build, which `drive` does.
+//! The top call: words ask for a compile run, an archive alone, a large run from a number, an expanded source, the
+//! tools of a build, or a fleet of builds, which `drive` does.
 //!
-//! Stands on `cc_build` and the crates below it. `read_words` makes a request of the words, or tells the first bad one; `drive` reads them, captures
-//! the host's variables, does what is asked for, and prints why a run was refused. `generate`, as a word and as a call, compiles generated sources on a host in
-//! memory of its own. The contract of `drive` is the theorem of the repository, so whoever makes this call, with any host and any pool, has it: the program
-//! `cc_main` on the machine, the program `cc_rows` on a host in memory.
+//! Stands on `cc_fleet`, `cc_graph` and the crates below them. `read_words` makes a request of the words, or tells the
+//! first bad one; `drive` reads them, captures the host's variables, does what is asked for, and prints why a run was
+//! refused. `generate`, as a word and as a call, compiles generated sources on a host in memory of its own. The
+//! contract of `drive` is the theorem of the repository, so whoever makes this call, with any host and any pool, has
+//! it: the program `cc_main` on the machine, the program `cc_rows` on a host in memory.
 #![tactic(auto)]
 
 mod archive;
@@ -14,6 +16,9 @@ mod ended;
 mod expand;
 mod failing;
 mod files;
+mod fleet;
+mod fleet_lines;
+mod fleet_words;
 mod graph;
 mod graph_errors;
 mod graph_file;

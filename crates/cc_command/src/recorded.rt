@@ -12,7 +12,8 @@ use cc_jobs::Jobs;
 use std::alloc::Global;
 use std::sync::Wait;
 
-// What a compile run is recorded by: an allocator, the name of its library, the path of the database, and how many turns it may make.
+// What a compile run is recorded by: an allocator, the name of its library, the path of the database, and how many
+// turns it may make.
 #[derive(Clone, Copy)]
 pub(crate) struct Record<'a> {
     pub alloc: Global,

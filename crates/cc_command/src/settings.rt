@@ -1,6 +1,7 @@
 // Reads the settings that words ask for, and the database.
-ghost use Rattle.std.specs.Prelude.{◌≡◌, ◌⊎◌, ◌≤◌, ◌&&◌, None, Some, map, IfOk, IfErr, string_bytes};
+ghost use Rattle.std.specs.Prelude.{◌≡◌, ◌⊎◌, ◌≤◌, ◌<◌, ◌+◌, ◌^◌, ◌&&◌, None, Some, length, map, IfOk, IfErr, string_bytes};
 ghost use Rattle.std.specs.Option.{option_copied};
+ghost use Rattle.cc_build.specs.Build.{fresh_build};
 ghost use Rattle.cc_command.specs.Read.{bad_at, bad_word, first_bad, is, database_in, database_of as database_asked};
 ghost use Rattle.cc_command.specs.SetsKey.{SetsAmong, SetsWord, ReadsSettings};
 ghost use Rattle.cc_command.specs.declared.words.ReadError.TheVariants.{Bad, NoMemory as WantsMemory};
@@ -58,8 +59,31 @@ pub(crate) fn bad(place: u64, cause: WordCause) -> ReadError
     ReadError::Bad(BadWord { place, cause })
 }
 
-/// Calls the setters of words, of which the first has this place, in their order, up to the first bad word. `recorded` says whether a
-/// database may be asked for.
+/// Calls the setters of words, of which the first has this place, in their order, on a build that nothing was set of,
+/// up to the first bad word. `recorded` says whether a database may be asked for.
+pub(crate) fn fill_settings<W: World>(
+    build: Build<W>,
+    words: &[String],
+    from: u64,
+    recorded: bool,
+) -> Result<Build<W>, ReadError>
+    requires fresh { build ≡ fresh_build }
+    requires fits { from + length words.now < 2 ^ 64 }
+    ensures ok { IfOk result (ReadsSettings recorded from (map string_bytes words.now)) }
+    ensures refused { IfErr result (λ e. (e ≡ WantsMemory)
+        ⊎ (bad_word (first_bad recorded from (map string_bytes words.now)) ≡ Some e)) }
+{
+    let mut build = build;
+    build.repeat_lines(true);
+    for (place, word) in words.iter().enumerate() {
+        if let Some(cause) = set_word(&mut build, word.as_str(), recorded)? {
+            return Err(bad(place as u64 + from, cause));
+        }
+    }
+    Ok(build)
+}
+
+/// The same of a build of its own.
 pub(crate) fn read_settings<W: World>(
     alloc: Global,
     words: &[String],
@@ -71,17 +95,10 @@ pub(crate) fn read_settings<W: World>(
     ensures refused { IfErr result (λ e. (e ≡ WantsMemory)
         ⊎ (bad_word (first_bad recorded from (map string_bytes words.now)) ≡ Some e)) }
 {
-    let mut build = match Build::new(alloc) {
-        Ok(build) => build,
-        Err(_) => return Err(ReadError::NoMemory),
-    };
-    build.repeat_lines(true);
-    for (place, word) in words.iter().enumerate() {
-        if let Some(cause) = set_word(&mut build, word.as_str(), recorded)? {
-            return Err(bad(place as u64 + from, cause));
-        }
+    match Build::new(alloc) {
+        Ok(build) => fill_settings(build, words, from, recorded),
+        Err(_) => Err(ReadError::NoMemory),
     }
-    Ok(build)
 }
 
 // The path of the database that a word asks for, if it does.

@@ -75,8 +75,8 @@ fn print_tools<W: World, H: Host<W>>(
     }
 }
 
-/// Finds the tools of a build, each with the lines of the variables that were read for it, and prints a line for the family of its compiler, and one for each of compiler, archiver and the tool that
-/// writes an index, with its command.
+/// Finds the tools of a build, each with the lines of the variables that were read for it, and prints a line for the
+/// family of its compiler, and one for each of compiler, archiver and the tool that writes an index, with its command.
 #[tactic(auto, using(cc_host::proofs::Parts::since_append))]
 pub(crate) fn show<W: World, H: Host<W>>(
     rt: &impl Wait,

@@ -153,7 +153,8 @@ fn hand_back<W: World, H: Host<W>>(
     }
 }
 
-/// Compiles so many generated sources on a host in memory of its own, and prints what that came to on the host that is handed in.
+/// Compiles so many generated sources on a host in memory of its own, and prints what that came to on the host that is
+/// handed in.
 #[tactic(auto, using(cc_build::proofs::Keeping::aside_none))]
 pub(crate) fn generate_alone<W: World, H: Host<W>>(
     rt: &impl Wait,

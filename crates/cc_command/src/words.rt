@@ -13,17 +13,20 @@ use std::alloc::Global;
 pub enum WordCause {
     /// There is no word at all. Its place is 0.
     NoCommand,
-    /// The first word is no command: neither `compile`, `archive`, `generate`, `expand` nor `show`. Its place is 0.
+    /// The first word is no command: neither `compile`, `archive`, `generate`, `expand`, `show` nor `fleet`. Its place
+    /// is 0.
     UnknownCommand,
-    /// The name of the library behind the command is missing, or the number behind `generate`. Its place is 1.
+    /// The name of the library behind the command is missing, or the number behind `generate`. Its place is 1. Or a
+    /// group behind `fleet` or its name is missing, at the place where it should stand.
     NoName,
     /// The word has no `=`, so it is no `key=value`.
     NoValue,
-    /// What stands before the first `=` is no key, or `database` behind another command than `compile`; behind the number of `generate` there is
-    /// none.
+    /// What stands before the first `=` is no key, or `database` behind another command than `compile`; behind the
+    /// number of `generate` there is none. Or the word behind `fleet` isn't `--`.
     UnknownKey,
-    /// The key doesn't take this value: a truth value that isn't `true` or `false`, a number that isn't its decimal form, or a value
-    /// without a second `=` where one is wanted. Or `generate` doesn't take this number: its place is 1.
+    /// The key doesn't take this value: a truth value that isn't `true` or `false`, a number that isn't its decimal
+    /// form, or a value without a second `=` where one is wanted. Or `generate` doesn't take this number: its place is
+    /// 1.
     BadValue,
 }
 
@@ -39,16 +42,18 @@ pub struct BadWord {
 /// What a run is to do, by the first word.
 #[derive(Drop, Debug)]
 pub enum Job {
-    /// Compile the sources, and archive them into the library of this name, which is as the words have it: the run checks it.
+    /// Compile the sources, and archive them into the library of this name, which is as the words have it: the run
+    /// checks it.
     Compile(Text),
     /// Archive the added objects alone into the library of this name, as the words have it, and print how it is linked.
     Archive(Text),
-    /// Compile so many generated sources, from 1 to 10000, into the library `gen`, on a host in memory that the job makes: the host of the
-    /// run gives and gets nothing but the lines of the summary.
+    /// Compile so many generated sources, from 1 to 10000, into the library `gen`, on a host in memory that the job
+    /// makes: the host of the run gives and gets nothing but the lines of the summary.
     Generate(u32),
     /// Expand the one source: print what the compiler's preprocessor makes of it.
     Expand,
-    /// Show the tools of the build: the family of its compiler, and the commands of compiler, archiver and the tool that writes an index.
+    /// Show the tools of the build: the family of its compiler, and the commands of compiler, archiver and the tool
+    /// that writes an index.
     Show,
 }
 

@@ -1,11 +1,11 @@
-//! The command: its words ask for a compile run, an archive alone, a large run from a number, an expanded source, the tools of a build, or a
-//! graph of commands, which it drives on the machine. Standard output bears the lines that Cargo reads from a build script (The Cargo Book,
-//! "Build Scripts"), those that sum a large run up, show the tools or tell what became of a graph, or the expanded source; `HELP` lists the
-//! words and the statuses.
+//! The command: its words ask for a compile run, an archive alone, a large run from a number, an expanded source, the
+//! tools of a build, a graph of commands, or a fleet of libraries, which it drives on the machine. Standard output
+//! bears the lines that Cargo reads from a build script (The Cargo Book, "Build Scripts"), those that sum a large run
+//! up, show the tools or tell what became of a graph, or the expanded source; `HELP` lists the words and the statuses.
 //!
-//! Stands on `cc_command`, whose `drive_files` reads the words and runs what they ask for: that call carries the theorem
-//! of the repository. Here is what knows the process: its words, the host that runs processes, the files of the machine, and a pool of the
-//! size that its variables ask for.
+//! Stands on `cc_command`, whose `drive_files` reads the words and runs what they ask for: that call carries the
+//! theorem of the repository. Here is what knows the process: its words, the host that runs processes, the files of the
+//! machine, and a pool of the size that its variables ask for.
 #![tactic(auto)]
 
 ghost use Rattle.std.specs.Prelude.{◌≡◌, ◌≤◌, IfOk};
@@ -34,6 +34,7 @@ usage: cc_main compile NAME key=value ...
        cc_main expand key=value ...
        cc_main show key=value ...
        cc_main graph FILE
+       cc_main fleet -- NAME key=value ... -- NAME key=value ...
 
 commands:
   compile NAME   compile the sources, and archive them into lib<NAME>.a
@@ -44,6 +45,8 @@ commands:
   graph FILE     run the commands of a JSON file, each once the commands that it needs ended with 0, beside each other as
                  tokens are free, and print for each its place and its status, or that it was skipped: an array of objects
                  with the program and its words under `command`, and the places that it needs under `needs`
+  fleet -- ..    build several libraries under one pool: behind each `--` stands what follows `compile`, without a database;
+                 one whose source or archive fails has a line of its own, and the others are built all the same
 
 keys that may stand again, each adding one:
   file=PATH              a source
@@ -104,7 +107,8 @@ fn words_of(rt: &HostRuntime) -> io::Result<Vec<String>> {
     Ok(words)
 }
 
-// How many commands may run beside each other: what the host's variables ask for. Where the host can't list them, there are none.
+// How many commands may run beside each other: what the host's variables ask for. Where the host can't list them, there
+// are none.
 #[tactic(auto, using(cc_host::proofs::Parts::since_append))]
 fn tokens<W: World, H: Host<W>>(alloc: Global, host: &mut H) -> Mem<u32>
     ensures some { IfOk result (λ total. 1 ≤ total) }

@@ -1,9 +1,10 @@
 //! What worked rows say, read from TOML, and the log of a host in memory as lines.
 //!
-//! Stands on `cc_text`, `cc_host` and the kit's `toml`. A row is one run of the command: its words, how its host differs from one at
-//! which all goes well, and what is expected of it. A call row is one call of a function: what it is given and what it gives. The
-//! program above uses `read_book`, `host_of` and `files_of`, which give what a row runs on, with their `healed` twins at which no call fails, `log_lines`,
-//! and `left_over`, which finds what a run left undone or unused.
+//! Stands on `cc_text`, `cc_host` and the kit's `toml`. A row is one run of the command: its words, how its host
+//! differs from one at which all goes well, and what is expected of it. A call row is one call of a function: what it
+//! is given and what it gives. The program above uses `read_book`, `host_of` and `files_of`, which give what a row runs
+//! on, with their `healed` twins at which no call fails, `log_lines`, and `left_over`, which finds what a run left
+//! undone or unused.
 #![tactic(auto)]
 
 mod commands;

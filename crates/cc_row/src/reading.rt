@@ -15,7 +15,8 @@ use toml::{Table, Value};
 
 const KEYS: &[&str] = &[
     "name", "words", "vars", "files", "random", "listens", "script", "missing", "answer", "fail",
-    "read", "tokens", "turns", "status", "healed", "error", "word", "log", "has", "lacks", "once",
+    "read", "tokens", "held", "turns", "status", "healed", "error", "word", "log", "has", "lacks",
+    "once",
 ];
 
 // The name of the row of this number, from 1.

@@ -106,14 +106,17 @@ pub struct ReadFile {
     pub bytes: Vec<u8>,
 }
 
-/// How many commands may run at a time, at least 1, and how many turns a run may make.
+/// How many commands may run at a time, at least 1, how many tokens of them another seat of the pool holds meanwhile,
+/// and how many turns a run may make.
 #[derive(Clone, Copy)]
 pub struct Pool {
     pub tokens: u32,
+    pub held: u32,
     pub turns: u64,
 }
 
-/// What is expected of a run: at least one of these. The status `healed` is that of the same run where no call fails, beside another one.
+/// What is expected of a run: at least one of these. The status `healed` is that of the same run where no call fails,
+/// beside another one.
 #[derive(Drop)]
 pub struct Expected {
     pub status: Option<u8>,

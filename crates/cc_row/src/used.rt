@@ -218,9 +218,9 @@ fn push_failures(
     Ok(())
 }
 
-/// What a run with this log left: children that run, probe files that stand, and what of its host nothing used. A script is used by a
-/// command that no later script of the row fits, an answer by a question that no later answer of the row is of; of the failing calls
-/// of a kind as many are used, lowest first, as that kind faulted.
+/// What a run with this log left: children that run, probe files that stand, and what of its host nothing used. A
+/// script is used by a command that no later script of the row fits, an answer by a question that no later answer of
+/// the row is of; of the failing calls of a kind as many are used, lowest first, as that kind faulted.
 pub fn left_over(alloc: Global, knobs: &Knobs, log: &[Event]) -> Mem<Vec<String>> {
     let mut left = Vec::new(alloc);
     push_open(alloc, &mut left, log)?;

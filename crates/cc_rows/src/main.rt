@@ -1,7 +1,8 @@
 //! Plays the worked rows of each file that an argument names, and prints those that end otherwise than they expect.
 //!
-//! Stands on `cc_row`, which reads them, on `cc_command`, whose `drive_files` runs a row on a host and files in memory, and on `cc_calls`, which makes the
-//! calls of single functions. It ends with 0 where every file was read and all was as expected, and else with 1.
+//! Stands on `cc_row`, which reads them, on `cc_command`, whose `drive_files` runs a row on a host and files in memory,
+//! and on `cc_calls`, which makes the calls of single functions. It ends with 0 where every file was read and all was
+//! as expected, and else with 1.
 #![tactic(auto)]
 
 mod calls;

@@ -248,12 +248,20 @@ fn read_reads(fields: Fields<'_, '_>) -> Read<Reads> {
     })
 }
 
-fn read_pool(fields: Fields<'_, '_>) -> Read<Pool> {
-    let turns = fields.count("turns", 0, 50)?;
-    match u32::try_from(fields.count("tokens", 1, 2)?) {
-        Ok(tokens) => Ok(Pool { tokens, turns }),
-        Err(_) => Err(fields.refuse("tokens", "not of 32 bits")),
+// A number of tokens, from this one on, or where there is none the usual one.
+fn read_tokens(fields: Fields<'_, '_>, key: &str, least: u64, usual: u64) -> Read<u32> {
+    match u32::try_from(fields.count(key, least, usual)?) {
+        Ok(tokens) => Ok(tokens),
+        Err(_) => Err(fields.refuse(key, "not of 32 bits")),
     }
+}
+
+fn read_pool(fields: Fields<'_, '_>) -> Read<Pool> {
+    Ok(Pool {
+        tokens: read_tokens(fields, "tokens", 1, 2)?,
+        held: read_tokens(fields, "held", 0, 0)?,
+        turns: fields.count("turns", 0, 50)?,
+    })
 }
 
 pub fn read_knobs(fields: Fields<'_, '_>) -> Read<Knobs> {

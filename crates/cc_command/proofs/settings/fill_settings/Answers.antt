@@ -3,10 +3,10 @@ use Rattle.std.proofs.lemmas.Result.{err_from_is_err_and}
 use Rattle.cc_command.specs.Read.{word_cause, first_bad}
 use Rattle.cc_command.specs.Step.{with_word}
 use Rattle.cc_command.proofs.WordLaws.{fresh_settings, good_here, set_here}
-use Rattle.cc_command.proofs.settings.read_settings.Goals as goal
+use Rattle.cc_command.proofs.settings.fill_settings.Goals as goal
 
 pub loop-place-init : goal.loop-place-init
-loop-place-init g c = record { rest = ap (λ n. first_bad c.args.recorded n (map string_bytes c.args.words.now)) (omega arith); build = fresh_settings c.in-Ok.build c.repeat_lines.new.self c.in-Ok.ensures.fresh c.repeat_lines.ensures }
+loop-place-init g c = record { rest = ap (λ n. first_bad c.args.recorded n (map string_bytes c.args.words.now)) (omega arith); build = fresh_settings c.args.build c.repeat_lines.new.self c.requires.fresh c.repeat_lines.ensures }
 
 pub loop-place-preserved : goal.loop-place-preserved
 loop-place-preserved g c =

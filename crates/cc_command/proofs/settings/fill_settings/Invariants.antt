@@ -1,6 +1,6 @@
 use Rattle.std.proofs.Common.{◌≡◌, ◌+◌, map, take, drop, string_bytes}
 use Rattle.cc_command.specs.Read.{first_bad, settings_of}
-use Rattle.cc_command.proofs.settings.read_settings.Given as goal
+use Rattle.cc_command.proofs.settings.fill_settings.Given as goal
 
 -- the words so far were good, and are set
 abbrev pub invariant-loop-place : goal.invariant-loop-place
