@@ -1,9 +1,10 @@
 // A snapshot of an environment, which no later change of the process reaches.
-ghost use Rattle.std.specs.Prelude.{◌≡◌, ◌↔◌, [], ◌++◌, List, ℕ, IfOk, IsErr, IsTrue, Some, None, bytes_eq};
+ghost use Rattle.std.specs.Prelude.{◌≡◌, ◌↔◌, [], ◌++◌, List, ℕ, IfOk, OnOk, IsErr, IsTrue, Some, None, bytes_eq};
 ghost use Rattle.std.specs.Option.{option_copied};
 ghost use Rattle.std.specs.Cmp.{partial_equiv_from_equiv};
 ghost use Rattle.cc_text.specs.Map.{HasDistinctKeys};
 ghost use Rattle.cc_text.specs.Vars.{same_vars, same_vars-equiv};
+ghost use Rattle.cc_env.specs.Index.{IsIndexed, shared_place};
 ghost use Rattle.cc_env.specs.Snapshot.{last_value, snapshot_of, child_of, debug_text};
 
 use crate::index::{Places, put_all};
@@ -12,6 +13,7 @@ use std::alloc::Global;
 use std::collections::BTreeMap;
 use std::fmt;
 use std::marker::Model;
+use std::sync::Arc;
 
 /// The name isn't set in the snapshot. Set to the empty text is set.
 #[derive(Clone, Copy, Debug, PartialEq, Eq)]
@@ -20,24 +22,54 @@ pub struct NotSet;
 /// The variables of an environment at one time. Two are equal where they have the same names and values in the same
 /// order. Its `Debug` text gives how many variables there are and none of them, since values may be secret.
 ///
+/// A second snapshot of the same variables shares them and the places of their names, so that twenty builds hold one
+/// environment.
+///
 /// Contracts see a list of names and values in which no name is there twice.
 #[derive(Drop)]
 pub struct EnvSnapshot {
     alloc: Global,
     vars: Vars,
-    places: Places,
+    places: Option<Arc<Places, Global>>,
 }
 
 impl Model for EnvSnapshot {
     ghost use Rattle.std.specs.Prelude.{List, ℕ};
-    ghost use Rattle.std.specs.BTreeMap.{get_by_text};
-    ghost use Rattle.cc_env.specs.Index.{IsIndexed};
+    ghost use Rattle.cc_env.specs.Index.{IsIndexed, shared_place};
 
     ghost Value = { List (List ℕ × List ℕ) };
 
     ghost view = { λ e. e.vars };
 
-    ghost invariant = { λ e. IsIndexed e.vars (get_by_text e.places) };
+    ghost invariant = { λ e. IsIndexed e.vars (shared_place e.places) };
+}
+
+// The place of a name, counted from 0, or none where it isn't there.
+fn place_of(places: &Option<Arc<Places, Global>>, name: &str) -> Option<usize>
+    ensures { result ≡ shared_place places.now name.now }
+{
+    match places {
+        Some(shared) => shared.get(name).copied(),
+        None => None,
+    }
+}
+
+// Gives each entry's name its value, in order: in place where the name is there, else in a pair added last. Refused
+// for memory, `vars` may hold a part of the entries, and its caller drops it.
+fn put_over(
+    alloc: Global,
+    vars: &mut Vars,
+    places: &Option<Arc<Places, Global>>,
+    entries: &Vars,
+) -> Mem<()>
+    requires { IsIndexed vars.old (shared_place places.now) }
+    ensures { OnOk result (vars.new ≡ child_of vars.old entries.now) }
+{
+    let mut more = BTreeMap::new(alloc);
+    match places {
+        Some(shared) => put_all(alloc, vars, shared, &mut more, entries),
+        None => put_all(alloc, vars, &BTreeMap::new(alloc), &mut more, entries),
+    }
 }
 
 impl EnvSnapshot {
@@ -48,7 +80,7 @@ impl EnvSnapshot {
         EnvSnapshot {
             alloc,
             vars: Vars::new(alloc),
-            places: BTreeMap::new(alloc),
+            places: None,
         }
     }
 
@@ -65,7 +97,7 @@ impl EnvSnapshot {
         Ok(EnvSnapshot {
             alloc,
             vars: kept,
-            places,
+            places: Some(Arc::new(alloc, places)?),
         })
     }
 
@@ -73,7 +105,7 @@ impl EnvSnapshot {
     pub fn get(&self, name: &str) -> Option<&str>
         ensures { option_copied result ≡ last_value self.now name.now }
     {
-        let place = *self.places.get(name)?;
+        let place = place_of(&self.places, name)?;
         let (_, value) = self.vars.get(place)?;
         Some(value.as_str())
     }
@@ -109,16 +141,23 @@ impl EnvSnapshot {
             → last_value vars name ≡ last_value self.now name) }
     {
         let mut vars = self.vars.try_clone()?;
-        let mut more = BTreeMap::new(alloc);
-        put_all(alloc, &mut vars, &self.places, &mut more, entries)?;
+        put_over(alloc, &mut vars, &self.places, entries)?;
         Ok(vars)
     }
 
-    /// A second snapshot of the same variables. Only want of memory refuses; nothing is kept then.
+    /// A second snapshot of the same variables, which shares them. Only want of memory refuses; nothing is kept then.
     pub fn try_clone(&self) -> Mem<EnvSnapshot>
         ensures { IfOk result (λ env. env ≡ self.now) }
     {
-        EnvSnapshot::from_vars(self.alloc, &self.vars)
+        let places = match &self.places {
+            Some(shared) => Some(Arc::try_clone(shared)?),
+            None => None,
+        };
+        Ok(EnvSnapshot {
+            alloc: self.alloc,
+            vars: self.vars.try_clone()?,
+            places,
+        })
     }
 }
 
