@@ -14,8 +14,6 @@ mod paths;
 mod plans;
 mod run;
 mod segments;
-#[cfg(test)]
-mod tests;
 
 pub use clash::find_clash;
 pub use failures::{Failure, last_failures};
