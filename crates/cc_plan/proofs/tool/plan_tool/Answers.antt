@@ -1,4 +1,4 @@
-use Rattle.std.proofs.Common.{Ok, Err}
+use Rattle.std.proofs.Common.{Ok, Err, inl, refl}
 use Rattle.std.proofs.lemmas.Result.{err_from_is_err_and}
 use Rattle.cc_tool.proofs.SettleLemmas.{holds_all}
 use Rattle.cc_plan.proofs.AskingLemmas.{only_more}
@@ -23,6 +23,12 @@ pub returns-in_err-quiet-clause-refused : goal.returns-in_err-quiet-clause-refus
 returns-in_err-quiet-clause-refused g c =
     let p = err_from_is_err_and c.from_residual-in_err-quiet.result c.from_residual-in_err-quiet.ensures.1 in
     rw (p.1, p.2) (own_refused (tool_refusal c.args.set.now c.args.env.now) (quiet_of c.args.set.now c.args.env.now) (Err c.in_err-quiet.field-0.0) c.in_ok-found.found.value c.in_err-quiet.ensures.same (tool_found c.args.set.now c.args.env.now c.in_ok-found.ensures.found))
+
+-- only memory may be wanted behind the plan
+pub returns-in_err-warned-clause-refused : goal.returns-in_err-warned-clause-refused
+returns-in_err-warned-clause-refused g c =
+    let p = err_from_is_err_and c.from_residual-in_err-warned.result c.from_residual-in_err-warned.ensures.1 in
+    rw (p.1, p.2) (inl refl)
 
 pub returns-clause-tool : goal.returns-clause-tool
 returns-clause-tool g c =
