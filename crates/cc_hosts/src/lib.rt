@@ -28,8 +28,6 @@ mod replaced;
 mod running;
 mod sink;
 mod standard;
-#[cfg(test)]
-mod tests;
 mod waiting;
 mod watched;
 mod watchers;

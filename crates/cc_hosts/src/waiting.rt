@@ -57,6 +57,11 @@ pub fn nap() {
     libc::nanosleep(&asked, &mut left);
 }
 
+/// Lets another process run, where one waits for this processor.
+pub fn give_way() {
+    libc::sched_yield();
+}
+
 /// The milliseconds of a clock that never goes back, or the last there is where it can't be read.
 pub fn now_ms() -> u64 {
     let mut time = timespec {

@@ -13,7 +13,7 @@ use crate::bell::Bell;
 use crate::child::{Spawned, status_of};
 use crate::heard::{Heard, Taken};
 use crate::late::Late;
-use crate::waiting::{awaited, is_ready, left_out};
+use crate::waiting::{awaited, give_way, is_ready, left_out};
 use cc_host::{News, RunningChild, Status};
 use cc_text::Mem;
 use libc::types::pollfd;
@@ -30,8 +30,9 @@ const READ: usize = 8192;
 // How long the thread waits for a child that is silent, in milliseconds.
 const PATIENCE: i32 = 50;
 
-// How many steps are made in a turn for a child that has no thread. One whose pipe closes in it is mostly about to end, so its end is asked for as often; where
-// the pipe was closed before, a few times.
+// How many steps are made in a turn for a child that has no thread. One whose pipe closes in it is mostly about to end, so its end is asked for as often, and
+// the processor is handed to others in between: the child may be waiting for it, as where more commands run than there are processors. Where the pipe was closed
+// before, a few times.
 const STEPS: u32 = 64;
 
 const CLOSED_STEPS: u32 = 4;
@@ -305,14 +306,17 @@ impl<P: OpenProcess + Drop> Watched<P> {
         } else {
             Patience::Within(0)
         };
-        let steps = if ear.pipe.is_none() {
-            CLOSED_STEPS
-        } else {
-            STEPS
-        };
+        let was_open = ear.pipe.is_some();
+        let steps = if was_open { STEPS } else { CLOSED_STEPS };
         for _ in 0..steps {
             match self.step(rt, ear, patience) {
-                Step::News | Step::Again | Step::Closed => patience = Patience::Within(0),
+                Step::News | Step::Again => patience = Patience::Within(0),
+                Step::Closed => {
+                    if was_open {
+                        give_way();
+                    }
+                    patience = Patience::Within(0);
+                }
                 Step::Silent | Step::Full | Step::Over => return,
             }
         }

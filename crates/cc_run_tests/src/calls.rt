@@ -101,6 +101,14 @@ pub(crate) fn write<W: World, H: Host<W>>(
     host.write_file(path, contents)
 }
 
+pub(crate) fn copy<W: World, H: Host<W>>(
+    host: &mut H,
+    from: &str,
+    to: &str,
+) -> Result<(), HostError> {
+    host.copy_file(from, to)
+}
+
 pub(crate) fn create<W: World, H: Host<W>>(
     host: &mut H,
     path: &str,

@@ -1,5 +1,5 @@
 // The files and folders of the host over the machine, below a folder for temporary files.
-use crate::calls::{create, make_dir, make_twice, remove, stands, write};
+use crate::calls::{copy, create, make_dir, make_twice, remove, stands, write};
 use crate::on_machine::{Check, on_machine};
 use crate::same::holds;
 use cc_host::{Created, Host, HostCall, HostError, Removal, Scope, Why};
@@ -79,9 +79,9 @@ fn write_twice(rt: &impl Abort, host: &mut impl Host<Real>, path: &str) {
     write(host, path, b"A\0\xFF\n").expect(rt, "a file");
 }
 
-fn is_written(rt: &(impl Files + AllocGlobal + Abort), path: &str) -> bool {
+fn has(rt: &(impl Files + AllocGlobal + Abort), path: &str, want: &[u8]) -> bool {
     let bytes = fs::read(rt, path).expect(rt, "its bytes");
-    bytes.as_slice() == b"A\0\xFF\n".as_slice()
+    bytes.as_slice() == want
 }
 
 fn refuses(host: &mut impl Host<Real>, path: &str, why: Why) -> bool {
@@ -94,7 +94,7 @@ pub(crate) fn check_written(
     path: &str,
 ) {
     write_twice(rt, host, path);
-    holds(rt, "it has these bytes", is_written(rt, path));
+    holds(rt, "it has these bytes", has(rt, path, b"A\0\xFF\n"));
     fs::remove_file(rt, path).expect(rt, "it is removed");
     let (lost, full) = ("/no such folder/a", "/dev/full");
     holds(rt, "no folder", refuses(host, lost, Why::NotFound));
@@ -104,6 +104,76 @@ pub(crate) fn check_written(
 #[test]
 fn a_written_file_has_these_bytes_alone(rt: HostRuntime) {
     on_machine(rt, rt.process(), "written", Check::Written);
+}
+
+// The name that a new file has until it takes the place of this one.
+fn beside(alloc: Global, path: &str) -> Mem<String> {
+    let (folder, name) = path.rsplit_once('/').unwrap_or((".", path));
+    Ok(format!(in alloc; "{folder}/.{name}.cc.tmp")?)
+}
+
+fn is_left(rt: &(impl Files + AllocGlobal + Abort), path: &str) -> bool {
+    fs::exists(rt, path).expect(rt, "whether it stands")
+}
+
+pub(crate) fn check_taken_over(
+    rt: &(impl Files + AllocGlobal + Abort),
+    host: &mut impl Host<Real>,
+    path: &str,
+) {
+    let left = beside(rt.alloc(), path).expect(rt, "memory");
+    fs::write(rt, left.as_str(), "a part").expect(rt, "a file");
+    write(host, path, b"whole").expect(rt, "a file");
+    holds(rt, "it is whole", has(rt, path, b"whole"));
+    holds(rt, "nothing is left", !is_left(rt, left.as_str()));
+    fs::remove_file(rt, path).expect(rt, "it is removed");
+}
+
+#[test]
+fn a_file_that_an_ended_run_left_is_taken_over(rt: HostRuntime) {
+    on_machine(rt, rt.process(), "left", Check::TakenOver);
+}
+
+fn path_in(alloc: Global, folder: &str, name: &str) -> Mem<String> {
+    Ok(format!(in alloc; "{folder}/{name}")?)
+}
+
+fn in_folder(rt: &(impl AllocGlobal + Abort), folder: &str, name: &str) -> String {
+    path_in(rt.alloc(), folder, name).expect(rt, "memory")
+}
+
+// Copies a file over one that has a second name, which keeps the old bytes.
+fn check_copy(
+    rt: &(impl Files + AllocGlobal + Abort),
+    host: &mut impl Host<Real>,
+    from: &str,
+    to: &str,
+    also: &str,
+) {
+    fs::write(rt, from, "new").expect(rt, "a file");
+    fs::write(rt, to, "old").expect(rt, "a file");
+    fs::hard_link(rt, to, also).expect(rt, "a second name");
+    copy(host, from, to).expect(rt, "a copy");
+    holds(rt, "it is the new one", has(rt, to, b"new"));
+    holds(rt, "the old one stands", has(rt, also, b"old"));
+}
+
+pub(crate) fn check_copied(
+    rt: &(impl Files + AllocGlobal + Abort),
+    host: &mut impl Host<Real>,
+    folder: &str,
+) {
+    make_folder(rt, host, folder);
+    let from = in_folder(rt, folder, "from");
+    let to = in_folder(rt, folder, "to");
+    let also = in_folder(rt, folder, "also");
+    check_copy(rt, host, from.as_str(), to.as_str(), also.as_str());
+    fs::remove_dir_all(rt, folder).expect(rt, "it is removed");
+}
+
+#[test]
+fn a_copy_is_a_new_file(rt: HostRuntime) {
+    on_machine(rt, rt.process(), "copies", Check::Copied);
 }
 
 fn is_there(rt: &impl Abort, host: &mut impl Host<Real>, path: &str) -> bool {

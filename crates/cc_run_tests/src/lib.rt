@@ -25,6 +25,8 @@ mod same;
 #[cfg(test)]
 mod tokens;
 #[cfg(test)]
+mod turns;
+#[cfg(test)]
 mod watch;
 
 pub use log::log_text;

@@ -1,10 +1,13 @@
 // Checks on a host over the machine. The host is made and named here alone, since its bounds take long to prove wherever it is named; a test says which check
 // it is.
-use crate::files::{check_folders, check_probe_file, check_removed, check_written};
-use crate::processes::{
-    check_beside, check_folder, check_lines, check_listed, check_missing, check_turns,
-    check_unheard, check_variables, check_versions,
+use crate::files::{
+    check_copied, check_folders, check_probe_file, check_removed, check_taken_over, check_written,
 };
+use crate::processes::{
+    check_beside, check_folder, check_late, check_lines, check_listed, check_missing,
+    check_searched, check_unheard, check_unread, check_variables, check_versions,
+};
+use crate::turns::{check_behind, check_grown, check_stopped, check_turns};
 use cc_host::Host;
 use cc_hosts::{ProcessHost, Real};
 use cc_text::Mem;
@@ -22,18 +25,26 @@ use std::{env, process};
 #[derive(Clone, Copy)]
 pub(crate) enum Check {
     Lines,
+    Late,
+    Unread,
     Variables,
     Folder,
+    Searched,
     Missing,
     Listed,
     Versions,
     Turns,
+    Behind,
+    Grown,
+    Stopped,
     Unheard,
     Beside,
     Probe,
     Folders,
     Removed,
     Written,
+    TakenOver,
+    Copied,
 }
 
 // Makes a check, with a path where nothing is yet.
@@ -45,18 +56,26 @@ fn make(
 ) {
     match check {
         Check::Lines => check_lines(rt, host),
+        Check::Late => check_late(rt, host),
+        Check::Unread => check_unread(rt, host, path),
         Check::Variables => check_variables(rt, host),
         Check::Folder => check_folder(rt, host),
+        Check::Searched => check_searched(rt, host, path),
         Check::Missing => check_missing(rt, host),
         Check::Listed => check_listed(rt, host),
         Check::Versions => check_versions(rt, host),
         Check::Turns => check_turns(rt, host),
+        Check::Behind => check_behind(rt, host),
+        Check::Grown => check_grown(rt, host),
+        Check::Stopped => check_stopped(rt, host, path),
         Check::Unheard => check_unheard(rt, host),
         Check::Beside => check_beside(rt, host, path),
         Check::Probe => check_probe_file(rt, host, path),
         Check::Folders => check_folders(rt, host, path),
         Check::Removed => check_removed(rt, host, path),
         Check::Written => check_written(rt, host, path),
+        Check::TakenOver => check_taken_over(rt, host, path),
+        Check::Copied => check_copied(rt, host, path),
     }
 }
 

@@ -2,16 +2,14 @@
 ghost use Rattle.std.specs.Prelude.{◌≡◌, IfOk};
 ghost use Rattle.cc_host.specs.declared.event.Role.TheVariants.{Compile};
 
-use crate::calls::{KEPT, check_output, check_verdict, leave_alone, output, start};
+use crate::calls::{KEPT, check_output, check_verdict, output};
 use crate::on_machine::{Check, on_machine};
 use crate::same::{check_log, holds, same};
-use cc_host::{
-    Ask, Command, Event, Host, HostCall, HostError, OutputKind, Pipes, Role, Status, Why,
-};
+use cc_host::{Ask, Command, Event, Host, HostCall, HostError, OutputKind, Pipes, Role, Why};
 use cc_hosts::Real;
 use cc_jobs::OneCaller;
 use cc_run::{Planned, Shows, Turns, run_all};
-use cc_text::{Mem, NoMemory, Vars};
+use cc_text::{Mem, Vars};
 use std::alloc::{AllocGlobal, Global};
 use std::env::Env;
 use std::process::Abort;
@@ -23,7 +21,7 @@ fn add_line(cmd: &mut Command, line: &str) -> Mem<()> {
     cmd.arg(line)
 }
 
-fn shell(alloc: Global, line: &str) -> Mem<Command> {
+pub(crate) fn shell(alloc: Global, line: &str) -> Mem<Command> {
     let mut cmd = Command::new(alloc, "sh")?;
     add_line(&mut cmd, line)?;
     Ok(cmd)
@@ -38,6 +36,24 @@ fn check_line(rt: &(impl AllocGlobal + Abort), host: &mut impl Host<Real>, line:
     check_output(rt, host, &cmd, KEPT, want);
 }
 
+pub(crate) fn with_word(alloc: Global, line: &str, word: &str) -> Mem<Command> {
+    let mut cmd = shell(alloc, line)?;
+    cmd.arg(word)?;
+    Ok(cmd)
+}
+
+// What a line comes to that has a word as `$0`.
+pub(crate) fn check_with(
+    rt: &(impl AllocGlobal + Abort),
+    host: &mut impl Host<Real>,
+    line: &str,
+    word: &str,
+    want: &str,
+) {
+    let cmd = with_word(rt.alloc(), line, word).expect(rt, "a command");
+    check_output(rt, host, &cmd, KEPT, want);
+}
+
 pub(crate) fn check_lines(rt: &(impl AllocGlobal + Abort), host: &mut impl Host<Real>) {
     check_line(rt, host, "exit 3", "Code(3) |");
     check_line(rt, host, "echo A; echo B >&2", "Code(0) A\n|B\n");
@@ -47,6 +63,71 @@ pub(crate) fn check_lines(rt: &(impl AllocGlobal + Abort), host: &mut impl Host<
 #[test]
 fn commands_end_as_their_programs_do(rt: HostRuntime) {
     on_machine(rt, rt.process(), "", Check::Lines);
+}
+
+// A command that leaves a process behind which writes behind its end, and those of which it holds one output for long.
+const LATE: &str = "(sleep 0.2; echo late; echo B >&2) & echo A; exit 3";
+
+const HOLDS_ERROR: &str = "sleep 5 >/dev/null & echo A; printf B >&2";
+
+const HOLDS_OUTPUT: &str = "sleep 5 2>/dev/null & echo A";
+
+fn is_refused(rt: &(impl AllocGlobal + Abort), host: &mut impl Host<Real>, line: &str) -> bool {
+    let cmd = shell(rt.alloc(), line).expect(rt, "a command");
+    let refused = HostError::Fault(HostCall::Output, Why::Other);
+    output(host, &cmd, KEPT).err() == Some(refused)
+}
+
+pub(crate) fn check_late(rt: &(impl AllocGlobal + Abort), host: &mut impl Host<Real>) {
+    let told = "Code(0) A\n|B\nFailed to read from child stderr\n";
+    check_line(rt, host, LATE, "Code(3) A\nlate\n|B\n");
+    check_line(rt, host, HOLDS_ERROR, told);
+    holds(
+        rt,
+        "its output isn't whole",
+        is_refused(rt, host, HOLDS_OUTPUT),
+    );
+}
+
+#[test]
+fn what_a_command_left_behind_is_heard_for_two_seconds(rt: HostRuntime) {
+    on_machine(rt, rt.process(), "", Check::Late);
+}
+
+// Makes a program that leaves a process behind which holds its standard error, and one that leaves none.
+const TWO_TOOLS: &str =
+    "mkdir \"$0\" && cd \"$0\" && printf '#!/bin/sh\\n' >says && chmod +x says && \
+printf '#!/bin/sh\\nsleep 5 >/dev/null &\\n' >holds && chmod +x holds";
+
+fn tool_in(alloc: Global, above: &str, name: &str) -> Mem<String> {
+    Ok(format!(in alloc; "{above}/{name}")?)
+}
+
+fn check_tool(
+    rt: &(impl AllocGlobal + Abort),
+    host: &mut impl Host<Real>,
+    above: &str,
+    name: &str,
+    want: &str,
+) {
+    let tool = tool_in(rt.alloc(), above, name).expect(rt, "memory");
+    check_verdict(rt, host, Ask::ToolVersion, tool.as_str(), want);
+}
+
+pub(crate) fn check_unread(
+    rt: &(impl Files + AllocGlobal + Abort),
+    host: &mut impl Host<Real>,
+    above: &str,
+) {
+    check_with(rt, host, TWO_TOOLS, above, "Code(0) |");
+    check_tool(rt, host, above, "says", "Yes");
+    check_tool(rt, host, above, "holds", "Unanswered");
+    fs::remove_dir_all(rt, above).expect(rt, "it is removed");
+}
+
+#[test]
+fn a_question_whose_standard_error_is_held_is_unanswered(rt: HostRuntime) {
+    on_machine(rt, rt.process(), "tools", Check::Unread);
 }
 
 pub(crate) fn check_variables(rt: &(impl AllocGlobal + Abort), host: &mut impl Host<Real>) {
@@ -72,6 +153,51 @@ pub(crate) fn check_folder(rt: &(impl AllocGlobal + Abort), host: &mut impl Host
 #[test]
 fn a_command_runs_in_its_folder(rt: HostRuntime) {
     on_machine(rt, rt.process(), "", Check::Folder);
+}
+
+// Makes two folders: in each is a program of one name, and in the second one of another.
+const TWO_FOLDERS: &str = "mkdir \"$0\" && cd \"$0\" && mkdir a b && echo echo a >a/tool && \
+echo echo b >b/tool && echo echo other >b/other && chmod +x a/tool b/*";
+
+fn search_path(alloc: Global, above: &str, folder: &str) -> Mem<String> {
+    Ok(format!(in alloc; "{above}/{folder}:/bin:/usr/bin")?)
+}
+
+// What a program writes that is looked for on this PATH.
+fn check_said(
+    rt: &(impl AllocGlobal + Abort),
+    host: &mut impl Host<Real>,
+    name: &str,
+    folders: &str,
+    want: &str,
+) {
+    let mut cmd = command(rt, name);
+    cmd.env("PATH", folders).expect(rt, "memory");
+    check_output(rt, host, &cmd, KEPT, want);
+}
+
+fn check_found(rt: &(impl AllocGlobal + Abort), host: &mut impl Host<Real>, a: &str, b: &str) {
+    check_said(rt, host, "tool", a, "Code(0) a\n|");
+    check_said(rt, host, "tool", b, "Code(0) b\n|");
+    check_said(rt, host, "other", b, "Code(0) other\n|");
+    check_said(rt, host, "tool", a, "Code(0) a\n|");
+}
+
+pub(crate) fn check_searched(
+    rt: &(impl Files + AllocGlobal + Abort),
+    host: &mut impl Host<Real>,
+    above: &str,
+) {
+    check_with(rt, host, TWO_FOLDERS, above, "Code(0) |");
+    let a = search_path(rt.alloc(), above, "a").expect(rt, "memory");
+    let b = search_path(rt.alloc(), above, "b").expect(rt, "memory");
+    check_found(rt, host, a.as_str(), b.as_str());
+    fs::remove_dir_all(rt, above).expect(rt, "they are removed");
+}
+
+#[test]
+fn a_program_is_looked_for_on_each_path(rt: HostRuntime) {
+    on_machine(rt, rt.process(), "search", Check::Searched);
 }
 
 fn has_no_folder(host: &mut impl Host<Real>, cmd: &Command) -> bool {
@@ -130,77 +256,6 @@ fn a_probe_is_answered_and_noted(rt: HostRuntime) {
     on_machine(rt, rt.process(), "", Check::Versions);
 }
 
-fn start_line(rt: &(impl AllocGlobal + Abort), host: &mut impl Host<Real>, line: &str) {
-    let cmd = shell(rt.alloc(), line).expect(rt, "a command");
-    start(host, &cmd).expect(rt, "a child");
-}
-
-fn leave_line(
-    rt: &(impl AllocGlobal + Abort),
-    host: &mut impl Host<Real>,
-    line: &str,
-) -> Option<u64> {
-    let cmd = shell(rt.alloc(), line).expect(rt, "a command");
-    leave_alone(host, &cmd).expect(rt, "a child")
-}
-
-// What the children did in a turn is added to what they wrote so far. How one ended, where one did.
-fn hear(host: &mut impl Host<Real>, heard: &mut Vec<u8>) -> Result<Option<Status>, HostError> {
-    let mut ended = None;
-    for news in &host.turn(10)? {
-        if let Some(piece) = &news.piece {
-            heard
-                .extend_from_slice(piece.as_slice())
-                .map_err(NoMemory::from)?;
-        }
-        ended = ended.or(news.ended);
-    }
-    Ok(ended)
-}
-
-const TURNS: u32 = 2000;
-
-// How a child ended, once one did. A turn is made again where memory was refused for it.
-fn end_of(host: &mut impl Host<Real>, heard: &mut Vec<u8>) -> Result<Option<Status>, HostError> {
-    for _ in 0..TURNS {
-        match hear(host, heard) {
-            Ok(None) | Err(HostError::NoMemory) => {}
-            ended => return ended,
-        }
-    }
-    Ok(None)
-}
-
-fn end_text(alloc: Global, ended: Option<Status>, heard: &[u8]) -> Mem<String> {
-    let heard = str::from_utf8(heard).unwrap_or("?");
-    Ok(format!(in alloc; "{ended:?} {heard}")?)
-}
-
-// How a child ends, and what it wrote.
-fn check_end(rt: &(impl AllocGlobal + Abort), host: &mut impl Host<Real>, want: &str) {
-    let mut heard = Vec::new(rt.alloc());
-    let ended = end_of(host, &mut heard).expect(rt, "news");
-    let text = end_text(rt.alloc(), ended, &heard).expect(rt, "memory");
-    same(rt, text.as_str(), want);
-}
-
-// A command that leaves a process behind which holds its standard error, and ends before that.
-const LEAVES: &str = "(sleep 5; echo late >&2) & exec 2>&-; exit 4";
-
-pub(crate) fn check_turns(rt: &(impl AllocGlobal + Abort), host: &mut impl Host<Real>) {
-    start_line(rt, host, "echo A >&2; exit 3");
-    let left = leave_line(rt, host, "sleep 60");
-    holds(rt, "it is the second child", left == Some(1));
-    check_end(rt, host, "Some(Code(3)) A\n");
-    start_line(rt, host, LEAVES);
-    check_end(rt, host, "Some(Code(4)) ");
-}
-
-#[test]
-fn a_turn_tells_what_a_child_wrote_and_how_it_ended(rt: HostRuntime) {
-    on_machine(rt, rt.process(), "", Check::Turns);
-}
-
 const UNHEARD: Pipes = Pipes {
     out: OutputKind::Capture,
     hear: false,
@@ -226,8 +281,7 @@ const WRITES: &str = "yes 0123456789012345678 | head -n 10000 >&2; : >\"$0\"";
 fn planned(alloc: Global, line: &str, file: &str) -> Mem<Planned>
     ensures { IfOk result (λ p. p.role ≡ Compile) }
 {
-    let mut cmd = shell(alloc, line)?;
-    cmd.arg(file)?;
+    let cmd = with_word(alloc, line, file)?;
     Ok(Planned {
         role: Role::Compile,
         cmd,
