@@ -122,11 +122,13 @@ pub unkept : (path at : List ℕ) (units : List TranslationUnit) (look : Look) (
 unkept path at units look old new e x y same h =
     first_of_more (IsOne at) (MayChoose path units look) old new e x y
     (λ l one.
-        let kept = kept_in one.0 in
-        let first = may_all (HasReason kept look) (may_reason kept look) units in
-        let stale = may_all IsState may_state (pairs units (choices_of first.1.0)) in
-        (first.0 ++ stale.0, subst (λ (o : List Read). MayChoose path units look (o ++ (first.0 ++ stale.0))) (sym (one.1 ∙ ap (λ (p : List ℕ). (p, one.0) ∷ []) same))
-        (kept, first.1.0, stale.1.0, record { held = one.0; first = first.0; stale = stale.0; cut = refl; kept_is = refl; reasons_are = first.1.1; states_are = stale.1.1 }))) h
+    let kept = kept_in one.0 in
+    let first = may_all (HasReason kept look) (may_reason kept look) units in
+    let stale = may_all IsState may_state (pairs units (choices_of first.1.0)) in (
+      first.0 ++ stale.0,
+      subst (λ (o : List Read). MayChoose path units look (o ++ (first.0 ++ stale.0))) (sym (one.1 ∙ ap (λ (p : List ℕ). (p, one.0) ∷ []) same))
+          (kept, first.1.0, stale.1.0, record { held = one.0; first = first.0; stale = stale.0; cut = refl; kept_is = refl; reasons_are = first.1.1; states_are = stale.1.1 }),
+    )) h
 
 -- ---- one reason after another
 

@@ -51,7 +51,7 @@ module _ (t : Terms) (faults now : ℕ) where
       subst (λ (o : Option ErrorSeen). EndsWith t o same more r part x z faults now) p (subst (λ (l : List Stage). EndsWith t refusal l more r part x z faults now) q h)
 
   -- it ended so with more reads left
-  pub refused_more : {T U : Type 0} (refusal : Option ErrorSeen) (stages : List Stage) (more rest : List Read) (e : ErrorSeen) (part : List Event) (x z : Means) → EndsWith {T = T} t refusal stages more (Err e) part x z faults now → EndsWith {T = U} t refusal stages (more ++ rest) (Err e) part x z faults now
+  pub refused_more : (refusal : Option ErrorSeen) (stages : List Stage) (more rest : List Read) (e : ErrorSeen) (part : List Event) (x z : Means) → Halted t refusal stages part e x z ⊎ Unread t stages part e more x z faults now → Halted t refusal stages part e x z ⊎ Unread t stages part e (more ++ rest) x z faults now
   refused_more refusal stages more rest e part x z (inl h) = inl h
   refused_more refusal stages more rest e part x z (inr u) = inr (record {
     before = u.before;

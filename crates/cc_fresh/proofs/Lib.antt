@@ -12,6 +12,7 @@ pub mod InTurnLaws
 pub mod Places
 pub mod PromiseLaws
 pub mod RefreshLaws
+pub mod StageLaws
 pub mod StateLaws
 pub mod UnitLaws
 pub mod ReasonLaws

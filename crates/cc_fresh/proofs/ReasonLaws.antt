@@ -132,8 +132,8 @@ module _ (old mid new : List Read) (source path digest : List ℕ) (e : Entry) (
   source_refused r x y h =
       first_of_more (IsOne path) (AreRead source e) old new r x y
       (λ l one.
-          let k = may_read_behind 0 (source, e.source) e.deps one.0 in
-          (k.0, reason_of source e (l ++ k.0) (subst (λ (o : List Read). AreReadTo 0 (wanted source e) (o ++ k.0)) (sym (one.1 ∙ ap (λ (p : List ℕ). (p, one.0) ∷ []) at)) k.1))) h
+      let k = may_read_behind 0 (source, e.source) e.deps one.0 in
+      (k.0, reason_of source e (l ++ k.0) (subst (λ (o : List Read). AreReadTo 0 (wanted source e) (o ++ k.0)) (sym (one.1 ∙ ap (λ (p : List ℕ). (p, one.0) ∷ []) at)) k.1))) h
 
   module _ (same : Bool) (wants : same ≡ true) (h : AddsOne old mid path digest same) where
     one : AddsOne old mid source e.source true

@@ -71,7 +71,7 @@ module _ (b : BuildSeen) (listens : Bool) (output path : List ℕ) (files : File
             same ∙ sym (append-nil files.old),
             may.1,
             (λ t x refusal rest some.
-                ends_as {T = Unit {0}} t files.before files.now refusal _ (opened b found look ++ Asks ∷ rest) _ may.0 (Err e) (since old mid) x x
+                ends_as t files.before files.now {T = Unit {0}} refusal _ (opened b found look ++ Asks ∷ rest) _ may.0 (Err e) (since old mid) x x
                 (refusal_is b output found look h.1.1 o.enabled o.allowed refusal) (stages_are b output found look h.1.1 o.enabled o.allowed (Asks ∷ rest))
                 (inl (halted_among t refusal (opened b found look) (Asks ∷ rest) (since old mid) e x x (o.went t x) memory (λ none. absurd (cc))))),
           ),
@@ -93,7 +93,7 @@ module _ (b : BuildSeen) (listens : Bool) (output path : List ℕ) (files : File
               k.2.0,
               subst (λ (us : List TranslationUnit). MayChoose path us look (k.0 ++ k.1)) same_units k.2.1,
               (λ t x refusal rest some.
-                  ends_as {T = Unit {0}} t files.before files.now refusal _ (opened b found look ++ Asks ∷ rest) _ k.1 (Err e) (since old new) x x
+                  ends_as t files.before files.now {T = Unit {0}} refusal _ (opened b found look ++ Asks ∷ rest) _ k.1 (Err e) (since old new) x x
                   (refusal_is b output found look h.1.1 o.enabled o.allowed refusal) (stages_are b output found look h.1.1 o.enabled o.allowed (Asks ∷ rest))
                   (unread_behind t files.before files.now refusal old mid new (opened b found look) rest k.1 r e x some first last (o.went t x) asked is k.2.2)),
             ),
@@ -129,7 +129,7 @@ module _ (checks : Bool) (path : List ℕ) (units : List TranslationUnit) (choic
     k.2.1.0,
     k.0,
     k.1,
-    (k.2.0, k.2.1.1, tt, (λ t x. unread_before {T = Unit {0}} t files.before files.now None (calls (Writes path (record_text k.2.1.0) ∷ [])) k.1 r e part x (λ empty. absurd (cc)) none is k.2.2)),
+    (k.2.0, k.2.1.1, tt, (λ t x. unread_before t files.before files.now None (calls (Writes path (record_text k.2.1.0) ∷ [])) k.1 r e part x (λ empty. absurd (cc)) none is k.2.2)),
   )
 
   module _ (kept : List Entry) (states : List UnitState) (entries : List Entry) (same : kept ≡ choice.kept) (also : states ≡ choice.states.items) (read : Adds files.old files.new (AreEntries checks kept units states entries)) where
@@ -139,7 +139,7 @@ module _ (checks : Bool) (path : List ℕ) (units : List TranslationUnit) (choic
         (subst (λ (k : List Entry). AreEntries checks k units choice.states.items entries read.0) same (subst (λ (l : List UnitState). AreEntries checks kept units l entries read.0) also read.1.1))
 
     -- the record was written
-    pub finished : CallsEnd (Writes path (record_text entries) ∷ []) part (Ok tt) → FinishEnds checks path units choice (Ok choice.reasons) files part
+    pub finished : CallsEnd {T = Unit {0}} (Writes path (record_text entries) ∷ []) part (Ok tt) → FinishEnds checks path units choice (Ok choice.reasons) files part
     finished ends = (entries, read.0, [], (read.1.0, its, refl, (λ t x. let done = ends t x in (refl, done.0, done.1))))
 
     -- it wasn't
@@ -205,7 +205,7 @@ module _ (b : BuildSeen) (listens : Bool) (output path : List ℕ) (checks : Boo
       let t = terms (shows_of b.config b.env listens) total patience in
       let its : (choices : List Bool) (bytes : List ℕ) → EndsWith {T = List Reason} t (refusal_error b.config b.env look output) (refresh_stages b way look output choices path bytes) (h.2 ++ may.0) (Err e) part x x files.before files.now =
       λ choices bytes.
-      refused_more {T = Unit {0}} t files.before files.now (refusal_error b.config b.env look output) (refresh_stages b way look output choices path bytes) h.2 may.0 e part x x
+      refused_more t files.before files.now (refusal_error b.config b.env look output) (refresh_stages b way look output choices path bytes) h.2 may.0 e part x x
       (h.3.3 t x (later_error b look output) (chosen_stages b way look output (chosen choices (compiles_planned b.config b.env found.here look)) path bytes) (later_left b way look output (beside (chosen choices (compiles_planned b.config b.env found.here look))) _)) in
       record {
         way = way;

@@ -6,6 +6,7 @@ pub mod Reading
 pub mod Unit
 pub mod Digests
 pub mod Made
+pub mod Promises
 pub mod Reads
 pub mod Reason
 pub mod Record

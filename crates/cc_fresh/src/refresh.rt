@@ -11,6 +11,7 @@ ghost use Rattle.cc_build.specs.Course.{ByRun, CallsEnd, OnCourse};
 ghost use Rattle.cc_build.specs.Kept.{Aside, Asking};
 ghost use Rattle.cc_build.specs.Promises.{NothingRuns, FaultsEnd};
 ghost use Rattle.cc_build.specs.RunPlan.{IsRunPlan};
+ghost use Rattle.cc_fresh.specs.Promises.{Promises};
 ghost use Rattle.cc_fresh.specs.Record.{record_text};
 ghost use Rattle.cc_fresh.specs.Refresh.{Refreshed, RefreshAsks, files_seen, read_error as error_of_read};
 ghost use Rattle.cc_fresh.specs.Refreshing.{FinishEnds, IsErrorOf, PerformEnds, PrepareEnds};
@@ -101,7 +102,16 @@ fn prepare<W: World, H: Host<W>, F: Files>(
         Err(memory) => return Err(Error::from(memory)),
     };
     let record = goal.record;
-    match choose(rt, alloc, build, host, files, answers, record, units.as_slice()) {
+    match choose(
+        rt,
+        alloc,
+        build,
+        host,
+        files,
+        answers,
+        record,
+        units.as_slice(),
+    ) {
         Ok(choice) => Ok(Prepared {
             plan,
             units,
@@ -284,10 +294,11 @@ pub fn try_refresh<W: World, H: Host<W>, J: Jobs, F: Files>(
     ensures asked { Asked W.steady W.answer (probes build.now) (RefreshAsks build.now)
         (part H.log host.old host.new) }
 
-    // Which files were read, which sources were compiled and why, what was kept of them, and each answer's cause.
-    ensures refreshed { ByRun H.log H.patience J.total J.faults J.taken J.load turns
+    // Which files were read, which sources were compiled and why, what was kept of them, and each answer's cause; and
+    // what follows from it, sentence by sentence.
+    ensures promises { ByRun H.log H.patience J.total J.faults J.taken J.load turns
         host.old host.new seat.old seat.new
-        (Refreshed build.now (H.listens host.old) output.now record_path.now check_objects result
+        (Promises build.now (H.listens host.old) output.now record_path.now check_objects result
         (files_seen F.reads F.faults files.old files.new)) }
     ensures settled { NothingRuns (part H.log host.old host.new) }
     ensures faults_last { FaultsEnd (part H.log host.old host.new) }
