@@ -41,8 +41,10 @@ pub record Promises (b : BuildSeen) (listens : Bool) (output path : List ℕ) (c
   pub refreshed : Refreshed b listens output path checks result files look part c
   -- one attempt for each of the first planned commands, of which those of fresh sources are none, and no other
   pub prefix : AreFirst
-      (refresh_stages b refreshed.way look output (choices_of refreshed.reasons) path (record_text refreshed.entries)) part
+      (refresh_stages b refreshed.way look output (choices_of refreshed.reasons) path
+      (record_text refreshed.entries)) part
   -- no command of the archive stands in the part unless every source that isn't fresh was compiled before it
-  pub order : (before after : List Event) (event : Event) → part ≡ before ++ event ∷ after → is_archive_event event ≡ true
+  pub order : (before after : List Event) (event : Event) → part ≡ before ++ event ∷ after
+      → is_archive_event event ≡ true
       → ChosenBefore (terms_for b listens c) b refreshed.way.found look
       (chosen_commands b refreshed.way.found look refreshed.reasons) before

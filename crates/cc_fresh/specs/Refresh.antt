@@ -60,7 +60,8 @@ IsReadError e (next ∷ more) before now = (e ≡ read_error next.0) × Rose bef
 abbrev pub RefreshAsks : BuildSeen → Look → Question → Type 0
 RefreshAsks b look q =
     RunAsks b.config b.env look q
-    ⊎ ((place : ℕ) × (o : Object) × ((slice_get (objects_of b.config b.env) place ≡ Some o) × (q ≡ exists_question o.dst)))
+    ⊎ ((place : ℕ) × (o : Object) × ((slice_get (objects_of b.config b.env) place ≡ Some o)
+    × (q ≡ exists_question o.dst)))
 
 -- ---- the stages
 

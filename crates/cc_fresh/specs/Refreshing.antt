@@ -54,14 +54,16 @@ pub record IsPrepared (b : BuildSeen) (listens : Bool) (output path : List ℕ) 
       → Went t ((folder_stages b.config b.env ++ Asks ∷ calls (opening_steps b.config b.env found look)) ++ Asks ∷ [])
       part x x
 
--- Ok: it was prepared. Else it ended before the stages behind the choice, whichever these are and whatever refuses them.
+-- Ok: it was prepared. Else it ended before the stages behind the choice, whichever these are and whatever refuses
+-- them.
 abbrev pub PrepareEnds : BuildSeen → Bool → List ℕ → List ℕ → Result Prepared ErrorSeen → FilesSeen → Look
     → List Event → Type 0
 PrepareEnds b listens output path (Ok p) files look part =
     (found : Found) × (Hears listens found × IsPrepared b listens output path p files look part found)
 PrepareEnds b listens output path (Err e) files look part =
     (found : Found) × (told more : List Read)
-    × (Hears listens found × (files.new ≡ files.old ++ told) × MayChoose path (units_for b found look) look (told ++ more)
+    × (Hears listens found × (files.new ≡ files.old ++ told)
+    × MayChoose path (units_for b found look) look (told ++ more)
     × ((t : Terms) (x : Means) (refusal : Option ErrorSeen) (rest : List Stage) → rest ≢ []
     → EndsWith {T = Unit {0}} t
     (first_of (early_error b.config b.env output) (first_of (late_error b.config b.env look output) refusal))
