@@ -3,5 +3,17 @@ pub mod ReaderLemmas
 pub mod DigestLemmas
 pub mod RecordLaws
 pub mod ReadLemmas
+pub mod FirstReads
+pub mod AskLaws
+pub mod ChoiceLaws
+pub mod EndsLaws
+pub mod EntryLaws
+pub mod InTurnLaws
+pub mod Places
+pub mod PromiseLaws
+pub mod RefreshLaws
+pub mod StageLaws
+pub mod StateLaws
+pub mod UnitLaws
 pub mod ReasonLaws
 pub mod MadeLaws

@@ -1,6 +1,14 @@
 pub mod Deps
+pub mod Choice
+pub mod Entries
+pub mod InTurn
 pub mod Reading
+pub mod Unit
 pub mod Digests
 pub mod Made
+pub mod Promises
+pub mod Reads
 pub mod Reason
 pub mod Record
+pub mod Refresh
+pub mod Refreshing

@@ -1,11 +1,12 @@
 -- What a compiled source was made of, as its compiler tells it, and which files are read to find it out.
-use Rattle.std.specs.Prelude.{◌≡◌, ◌⊎◌, ℕ, List, [], ◌∷◌, Option, Some, None, option_map, codes, Result, Ok, Err}
+use Rattle.std.specs.Prelude.{◌≡◌, ◌⊎◌, ℕ, List, [], ◌∷◌, ◌++◌, Bool, Option, Some, None, option_map, codes, Result, Ok, Err}
 use Rattle.cc_text.specs.Paths.{with_extension}
+use Rattle.cc_text.specs.Words.{when}
 use Rattle.cc_host.specs.declared.files.Held.{Held}
 use Rattle.cc_host.specs.declared.files.Held.TheVariants.{Absent, Bytes}
 use Rattle.cc_fresh.specs.Deps.{read_deps}
 use Rattle.cc_fresh.specs.Digests.{digest}
-use Rattle.cc_fresh.specs.Reason.{Read}
+use Rattle.cc_fresh.specs.Reads.{Read}
 use Rattle.cc_fresh.specs.declared.deps.DepsError.{DepsError}
 
 -- a file and its digest
@@ -27,13 +28,6 @@ ReadNames (n ∷ ns) told deps =
     ⊎ ((d : List ℕ) × (more : Option (List Dep)) × ((digest_of held ≡ Some d) × ReadNames ns rest more
     × (deps ≡ option_map (λ ds. (n, d) ∷ ds) more)))))
 
--- the first of those reads were made, or all of them
-abbrev pub ReadNamesAmong : List (List ℕ) → List Read → Type 0
-ReadNamesAmong [] told = told ≡ []
-ReadNamesAmong (n ∷ ns) told =
-    (told ≡ []) ⊎ ((held : Held) × (rest : List Read) × ((told ≡ (n, held) ∷ rest)
-    × ((rest ≡ []) ⊎ ((d : List ℕ) × ((digest_of held ≡ Some d) × ReadNamesAmong ns rest)))))
-
 -- the names that a compiler tells of, where there are some
 abbrev pub names_or_none : Result (List (List ℕ)) DepsError → Option (List (List ℕ))
 names_or_none (Ok names) = Some names
@@ -47,16 +41,14 @@ names_in (Bytes text) = names_or_none (read_deps text)
 abbrev pub deps_path : List ℕ → List ℕ
 deps_path object = with_extension object (codes "d")
 
--- That text was read, and then the files that it names, up to the first that is absent; these are the files, where the
--- text is one and none is absent.
-abbrev pub ReadMade : List ℕ → List Read → Option (List Dep) → Type 0
-ReadMade object told deps =
+-- the files that are digested for an object whose compiler tells of these: where objects are checked, it comes last
+abbrev pub digested : Bool → List ℕ → List (List ℕ) → List (List ℕ)
+digested checks object names = names ++ when checks (object ∷ [])
+
+-- That text was read, and then the files that it names, up to the first that is absent, and behind them the object,
+-- where objects are checked. These are the files, where the text is one and none is absent.
+abbrev pub ReadMade : Bool → List ℕ → List Read → Option (List Dep) → Type 0
+ReadMade checks object told deps =
     (held : Held) × (rest : List Read) × ((told ≡ (deps_path object, held) ∷ rest)
     × (((names_in held ≡ None) × (rest ≡ []) × (deps ≡ None))
-    ⊎ ((names : List (List ℕ)) × ((names_in held ≡ Some names) × ReadNames names rest deps))))
-
--- the first of those reads were made, or all of them
-abbrev pub ReadMadeAmong : List ℕ → List Read → Type 0
-ReadMadeAmong object told =
-    (told ≡ []) ⊎ ((held : Held) × (rest : List Read) × ((told ≡ (deps_path object, held) ∷ rest)
-    × ((rest ≡ []) ⊎ ((names : List (List ℕ)) × ((names_in held ≡ Some names) × ReadNamesAmong names rest)))))
+    ⊎ ((names : List (List ℕ)) × ((names_in held ≡ Some names) × ReadNames (digested checks object names) rest deps))))

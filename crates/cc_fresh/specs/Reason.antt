@@ -3,34 +3,19 @@ use Rattle.std.specs.Prelude.{◌≡◌, ◌⊎◌, ℕ, zero, suc, List, [], �
 use Rattle.cc_host.specs.declared.files.Held.{Held}
 use Rattle.cc_host.specs.declared.files.Held.TheVariants.{Absent, Bytes}
 use Rattle.cc_fresh.specs.Digests.{digest}
+use Rattle.cc_fresh.specs.Reads.{Read, AddsHeld}
 use Rattle.cc_fresh.specs.declared.reason.Reason.{Reason}
 use Rattle.cc_fresh.specs.declared.reason.Reason.TheVariants.{Fresh, Source, Dependency}
 use Rattle.cc_fresh.specs.declared.record.Entry.{Entry}
-
--- a read: a path with what it gave
-abbrev pub Read : Type 0
-Read = List ℕ × Held
 
 -- a file has this digest
 abbrev pub agrees : List ℕ → Held → Bool
 agrees wanted Absent = false
 agrees wanted (Bytes bytes) = bytes_eq (digest bytes) wanted
 
--- these reads are more than those, by reads of which this holds
-abbrev pub Adds : List Read → List Read → (List Read → Type 0) → Type 0
-Adds old new fact = (told : List Read) × ((new ≡ old ++ told) × fact told)
-
--- one file was read, and this holds of what it gave
-abbrev pub AddsHeld : List Read → List Read → List ℕ → (Held → Type 0) → Type 0
-AddsHeld old new path fact = (held : Held) × ((new ≡ old ++ (path, held) ∷ []) × fact held)
-
 -- it has this digest or not
 abbrev pub AddsOne : List Read → List Read → List ℕ → List ℕ → Bool → Type 0
 AddsOne old new path wanted same = AddsHeld old new path (λ held. same ≡ agrees wanted held)
-
--- it was read, or it wasn't
-abbrev pub AddsSome : List Read → List Read → List ℕ → Type 0
-AddsSome old new path = (new ≡ old) ⊎ ((held : Held) × (new ≡ old ++ (path, held) ∷ []))
 
 -- These files, each with the digest that it is to have, were read one after another up to the first that doesn't have
 -- it. That is at this place, where there is one, counted from such a number on.
@@ -40,13 +25,6 @@ ReadTo k (w ∷ ws) told off =
     (held : Held) × (rest : List Read) × ((told ≡ (w.0, held) ∷ rest)
     × (((agrees w.1 held ≡ true) × ReadTo (suc k) ws rest off)
     ⊎ ((agrees w.1 held ≡ false) × (rest ≡ []) × (off ≡ Some k))))
-
--- the first of these reads were made, or all of them
-abbrev pub ReadAmong : List (List ℕ × List ℕ) → List Read → Type 0
-ReadAmong [] told = told ≡ []
-ReadAmong (w ∷ ws) told =
-    (told ≡ []) ⊎ ((held : Held) × (rest : List Read) × ((told ≡ (w.0, held) ∷ rest)
-    × (((agrees w.1 held ≡ true) × ReadAmong ws rest) ⊎ (rest ≡ []))))
 
 -- the files of an entry: its source, and then the further ones, each with its digest
 abbrev pub wanted : List ℕ → Entry → List (List ℕ × List ℕ)
@@ -62,6 +40,6 @@ reason_at (Some (suc k)) = Dependency k
 abbrev pub IsRead : List ℕ → Entry → Reason → List Read → Type 0
 IsRead source e reason told = (off : Option ℕ) × (ReadTo 0 (wanted source e) told off × (reason ≡ reason_at off))
 
--- the first of those reads were made
-abbrev pub IsPartlyRead : List ℕ → Entry → List Read → Type 0
-IsPartlyRead source e told = ReadAmong (wanted source e) told
+-- the files of an entry were read as far as needed, whatever the reason
+abbrev pub AreRead : List ℕ → Entry → List Read → Type 0
+AreRead source e told = (reason : Reason) × IsRead source e reason told

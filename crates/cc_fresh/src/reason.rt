@@ -1,13 +1,13 @@
 // Why sources are compiled, and which files are read to find it out.
-ghost use Rattle.std.specs.Prelude.{◌≡◌, ◌≤◌, ◌++◌, [], ◌∷◌, ℕ, List, length, slice_get, find, bytes_eq, IfOk, IfErr, OnOk, OnErr};
+ghost use Rattle.std.specs.Prelude.{◌≡◌, ◌≤◌, ◌++◌, [], ◌∷◌, ℕ, List, Option, length, slice_get, find, bytes_eq, IfOk, IfErr, OnOk, OnErr};
 ghost use Rattle.std.specs.Option.{option_copied};
-ghost use Rattle.cc_host.specs.Event.{Rose};
-ghost use Rattle.cc_host.specs.declared.files.FileError.TheVariants.{Fault};
-ghost use Rattle.cc_fresh.specs.Reason.{agrees, Adds, AddsOne, AddsSome, ReadTo, ReadAmong, IsRead, IsPartlyRead};
+ghost use Rattle.cc_fresh.specs.Reads.{Adds, AddsFirst, IsOne};
+ghost use Rattle.cc_fresh.specs.Reason.{agrees, AddsOne, ReadTo, IsRead, AreRead};
 ghost use Rattle.cc_fresh.specs.declared.reason.Reason.{Reason as ReasonSeen};
 
+use crate::file::{ReadError, read_file};
 use crate::{Entry, digest};
-use cc_host::{FileError, Files, Held};
+use cc_host::{Files, Held};
 use cc_text::{Mem, Text};
 use std::alloc::Global;
 use std::marker::Model;
@@ -74,6 +74,13 @@ impl Reasons {
     {
         self.items.get(place)
     }
+
+    /// The reasons in order, lent. It takes no memory.
+    pub(crate) fn as_slice(&self) -> &[Reason]
+        ensures { result.now ≡ self.now }
+    {
+        self.items.as_slice()
+    }
 }
 
 // Whether what was read has this digest.
@@ -95,16 +102,14 @@ fn read_one<F: Files>(
     files: &mut F,
     path: &str,
     wanted: &str,
-) -> Result<bool, FileError>
+) -> Result<bool, ReadError>
     ensures read { IfOk result (λ same. AddsOne
         (F.reads files.old) (F.reads files.new) path.now wanted.now same) }
-    ensures partly { IfErr result (λ _. AddsSome
-        (F.reads files.old) (F.reads files.new) path.now) }
+    ensures refused { IfErr result (λ e. AddsFirst (F.reads files.old) (F.reads files.new)
+        (IsOne path.now) e (F.faults files.old) (F.faults files.new)) }
     ensures later { F.faults files.old ≤ F.faults files.new }
-    ensures cause { IfErr result (λ e. e ≡ Fault
-        → Rose (F.faults files.old) (F.faults files.new)) }
 {
-    let held = files.read(path)?;
+    let held = read_file(alloc, files, path)?;
     let same = has_digest(alloc, &held, wanted)?;
     Ok(same)
 }
@@ -115,14 +120,13 @@ fn first_off<F: Files>(
     alloc: Global,
     files: &mut F,
     deps: &[(Text, Text)],
-) -> Result<Option<usize>, FileError>
+) -> Result<Option<usize>, ReadError>
     ensures read { IfOk result (λ off. Adds (F.reads files.old) (F.reads files.new)
         (λ told. ReadTo 0 deps.now told off)) }
-    ensures partly { IfErr result (λ _. Adds (F.reads files.old) (F.reads files.new)
-        (λ told. ReadAmong deps.now told)) }
+    ensures refused { IfErr result (λ e. AddsFirst (F.reads files.old) (F.reads files.new)
+        (λ told. (off : Option ℕ) × ReadTo 0 deps.now told off)
+        e (F.faults files.old) (F.faults files.new)) }
     ensures later { F.faults files.old ≤ F.faults files.new }
-    ensures cause { IfErr result (λ e. e ≡ Fault
-        → Rose (F.faults files.old) (F.faults files.new)) }
 {
     for (place, dep) in deps.iter().enumerate() {
         if !read_one(alloc, files, dep.0.as_str(), dep.1.as_str())? {
@@ -146,14 +150,12 @@ pub(crate) fn read_reason<F: Files>(
     files: &mut F,
     source: &str,
     entry: &Entry,
-) -> Result<Reason, FileError>
+) -> Result<Reason, ReadError>
     ensures read { IfOk result (λ reason. Adds (F.reads files.old) (F.reads files.new)
         (IsRead source.now entry.now reason)) }
-    ensures partly { IfErr result (λ _. Adds (F.reads files.old) (F.reads files.new)
-        (IsPartlyRead source.now entry.now)) }
+    ensures refused { IfErr result (λ e. AddsFirst (F.reads files.old) (F.reads files.new)
+        (AreRead source.now entry.now) e (F.faults files.old) (F.faults files.new)) }
     ensures later { F.faults files.old ≤ F.faults files.new }
-    ensures cause { IfErr result (λ e. e ≡ Fault
-        → Rose (F.faults files.old) (F.faults files.new)) }
 {
     if !read_one(alloc, files, source, entry.source.as_str())? {
         return Ok(Reason::Source);

@@ -1,5 +1,5 @@
 use Rattle.std.proofs.Common.{◌≤◌}
-use Rattle.cc_fresh.specs.Reason.{Adds}
+use Rattle.cc_fresh.specs.Reads.{Adds}
 use Rattle.cc_fresh.proofs.MadeLaws.{Going}
 use Rattle.cc_fresh.proofs.made.read_names.Given as goal
 

@@ -1,5 +1,5 @@
 use Rattle.std.proofs.Common.{◌≤◌}
-use Rattle.cc_fresh.specs.Reason.{Adds}
+use Rattle.cc_fresh.specs.Reads.{Adds}
 use Rattle.cc_fresh.proofs.ReasonLaws.{Going}
 use Rattle.cc_fresh.proofs.reason.first_off.Given as goal
 
