@@ -265,8 +265,8 @@ fn refresh<W: World, H: Host<W>, J: Jobs, F: Files>(
 /// are compiled. Then it runs their commands, archives all objects, prints the lines for Cargo, and writes the record:
 /// the kept entry of each fresh source, and for each that was compiled one of its command and of the digests of its
 /// source and of the files that its compiler tells of (`-MMD` of GCC and Clang). One that has no such text has no
-/// entry, and is compiled each time. Of a fresh source it is only known that its object is there; where `check_objects` holds
-/// the object is digested too, behind those files, so that one that was changed is made anew.
+/// entry, and is compiled each time. Of a fresh source it is only known that its object is there; where `check_objects`
+/// holds the object is digested too, behind those files, so that one that was changed is made anew.
 ///
 /// Refused as `try_compile` is, and with IOError where a file couldn't be read: its path is the subject. The record is
 /// written last, so after a refusal before that it is as it was.
