@@ -3,7 +3,7 @@ use crate::calls::{KEPT, leave_alone, start};
 use crate::on_machine::{Check, on_machine};
 use crate::processes::{check_with, shell, with_word};
 use crate::same::{holds, same};
-use cc_host::{Command, Host, HostError, Role, Start, Status};
+use cc_host::{Command, Host, HostError, Role, Start, Status, World};
 use cc_hosts::Real;
 use cc_text::{Mem, NoMemory};
 use std::alloc::{AllocGlobal, Global};
@@ -148,19 +148,20 @@ fn folder_of(rt: &(impl Files + AllocGlobal), pipe: &str) -> Mem<Option<String>>
 }
 
 // Starts a child that writes its number into a pipe, and leaves it alone behind that. The folder of its process, where it stood before.
-fn leave_known(
+fn leave_known<W: World, H: Host<W>>(
     rt: &(impl Files + AllocGlobal),
-    host: &mut impl Host<Real>,
+    host: &mut H,
     cmd: &Command,
     pipe: &str,
 ) -> Result<Option<String>, HostError> {
-    match host.start(Role::Compile, cmd, KEPT, 1)? {
-        Start::Child(id) => {
+    match host.start(Role::Compile, cmd, KEPT, 1) {
+        Ok(Start::Child(id)) => {
             let folder = folder_of(rt, pipe);
             host.abandon(id);
             Ok(folder?)
         }
-        Start::Missing => Ok(None),
+        Ok(Start::Missing) => Ok(None),
+        Err(error) => Err(error),
     }
 }
 
